@@ -8,10 +8,10 @@ use Rattle.tv_value.specs.Views.{strategy_view}
 use Rattle.tv_strategy.specs.Conditions.{number_of}
 use Rattle.tv_strategy.specs.Splits.{split}
 use Rattle.tv_naming.specs.Naming.{numbered}
-use Rattle.tv_naming.proofs.OfTold.{get-numbered}
-use Rattle.tv_wires.specs.declared.feeds.NumberedFeed.{NumberedFeed}
-use Rattle.tv_wires.specs.declared.feeds.NumberedFeed.TheVariants.{Link, Merge, Constant}
-use Rattle.tv_wires.specs.declared.ports.Port.{Port}
+use Rattle.tv_naming.proofs.Told.{get-numbered}
+use Rattle.tv_check.specs.declared.feeds.NumberedFeed.{NumberedFeed}
+use Rattle.tv_check.specs.declared.feeds.NumberedFeed.TheVariants.{Link, Merge, Constant}
+use Rattle.tv_check.specs.declared.ports.Port.{Port}
 use Rattle.tv_binding.specs.Binding.{delivered_by, IsBoundBy, JobsBindWhatIsDelivered, OutputsAreDelivered}
 use Rattle.tv_binding.specs.Constants.{FlowConstants, constant_of_port, constant_of_output}
 use Rattle.tv_binding.specs.Delivered.{FlowValues, IsKnownOf, no_items, wrapped_value}

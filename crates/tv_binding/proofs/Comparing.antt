@@ -9,10 +9,10 @@ use Rattle.tv_value.specs.Nested.{Place, children, item_at, items, no_trees, tre
 use Rattle.tv_value.specs.Values.{Name, Value, list_value}
 use Rattle.tv_value.specs.Views.{strategy_view, view}
 use Rattle.tv_value.specs.declared.value.Value.{Value as CodeValue}
-use Rattle.tv_value.proofs.OfItems.{items-trees_of}
+use Rattle.tv_value.proofs.ItemLemmas.{items-trees_of}
 use Rattle.tv_strategy.specs.Conditions.{number_of}
 use Rattle.tv_strategy.specs.Splits.{split}
-use Rattle.tv_wires.specs.declared.ports.Port.{Port}
+use Rattle.tv_check.specs.declared.ports.Port.{Port}
 use Rattle.tv_outputs.proofs.Comparing.{same-items, told-no}
 use Rattle.tv_binding.specs.Delivered.{wrapped_value}
 use Rattle.tv_binding.specs.Constants.{FlowConstants, constant_of_port}
@@ -21,7 +21,7 @@ use Rattle.tv_binding.specs.Jobs.{port_found, wraps}
 use Rattle.tv_binding.specs.Parts.{IsPartOf}
 use Rattle.tv_binding.specs.declared.jobs.StepPorts.{StepPorts}
 use Rattle.tv_binding.proofs.Binding.{all-each}
-use Rattle.tv_binding.proofs.OfSources.{found-all}
+use Rattle.tv_binding.proofs.SourceLemmas.{found-all}
 
 -- ---- all of some
 

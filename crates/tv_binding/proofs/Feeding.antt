@@ -4,10 +4,10 @@ use Rattle.std.proofs.Common.{sym, ap, ◌∙◌}
 use Rattle.std.proofs.lemmas.Option.{same_Some}
 use Rattle.tv_value.specs.Nested.{Place, at, item_at, trees_of}
 use Rattle.tv_value.specs.Values.{Value, list_value}
-use Rattle.tv_wires.specs.declared.feeds.NumberedLink.{NumberedLink}
-use Rattle.tv_wires.specs.declared.feeds.NumberedLink.TheVariants.{Input, Output}
-use Rattle.tv_wires.specs.declared.feeds.NumberedFeed.{NumberedFeed}
-use Rattle.tv_wires.specs.declared.feeds.NumberedFeed.TheVariants.{Link, Merge, Constant}
+use Rattle.tv_check.specs.declared.feeds.NumberedLink.{NumberedLink}
+use Rattle.tv_check.specs.declared.feeds.NumberedLink.TheVariants.{Input, Output}
+use Rattle.tv_check.specs.declared.feeds.NumberedFeed.{NumberedFeed}
+use Rattle.tv_check.specs.declared.feeds.NumberedFeed.TheVariants.{Link, Merge, Constant}
 use Rattle.tv_binding.specs.Found.{Known, link_found, all_found, merge_found, feed_found}
 use Rattle.tv_binding.specs.Delivered.{FlowValues, IsKnownOf, no_items, link_value, feed_value, wrapped_value}
 use Rattle.tv_binding.specs.Stated.{FoundIsDelivered}

@@ -1,6 +1,6 @@
 pub mod Finding
 pub mod Feeding
 pub mod Wraps
-pub mod OfSources
+pub mod SourceLemmas
 pub mod Binding
 pub mod Comparing

@@ -4,10 +4,10 @@ use Rattle.tv_value.specs.Nested.{Place, at, trees_of}
 use Rattle.tv_value.specs.Values.{Value, list_value}
 use Rattle.tv_parts.specs.Partials.{Partial}
 use Rattle.tv_outputs.specs.FoundIn.{found_in}
-use Rattle.tv_wires.specs.declared.feeds.NumberedLink.{NumberedLink}
-use Rattle.tv_wires.specs.declared.feeds.NumberedLink.TheVariants.{Input, Output}
-use Rattle.tv_wires.specs.declared.feeds.NumberedFeed.{NumberedFeed}
-use Rattle.tv_wires.specs.declared.feeds.NumberedFeed.TheVariants.{Link, Merge, Constant}
+use Rattle.tv_check.specs.declared.feeds.NumberedLink.{NumberedLink}
+use Rattle.tv_check.specs.declared.feeds.NumberedLink.TheVariants.{Input, Output}
+use Rattle.tv_check.specs.declared.feeds.NumberedFeed.{NumberedFeed}
+use Rattle.tv_check.specs.declared.feeds.NumberedFeed.TheVariants.{Link, Merge, Constant}
 
 -- the values of the flow's inputs, and of each output, by its step and its number, what is known of it
 pub record Known : Type 0 where

@@ -8,8 +8,8 @@ use Rattle.tv_flow.specs.declared.document.StepInput.{StepInput}
 use Rattle.tv_strategy.specs.Conditions.{number_of}
 use Rattle.tv_strategy.specs.Splits.{split}
 use Rattle.tv_naming.specs.Naming.{numbered}
-use Rattle.tv_wires.specs.declared.feeds.NumberedFeed.{NumberedFeed}
-use Rattle.tv_wires.specs.declared.ports.Port.{Port}
+use Rattle.tv_check.specs.declared.feeds.NumberedFeed.{NumberedFeed}
+use Rattle.tv_check.specs.declared.ports.Port.{Port}
 use Rattle.tv_binding.specs.Delivered.{wrapped_value}
 use Rattle.tv_binding.specs.Found.{Known, all_found, feed_found}
 use Rattle.tv_binding.specs.Constants.{FlowConstants, constant_of_port, constant_of_output}

@@ -5,7 +5,7 @@ use Rattle.tv_value.specs.Values.{Name}
 use Rattle.tv_value.specs.Views.{strategy_view}
 use Rattle.tv_strategy.specs.Conditions.{number_of}
 use Rattle.tv_strategy.specs.Splits.{split}
-use Rattle.tv_wires.specs.declared.ports.Port.{Port}
+use Rattle.tv_check.specs.declared.ports.Port.{Port}
 use Rattle.tv_binding.specs.declared.jobs.StepPorts.{StepPorts}
 
 -- it begins where the port's leaf does, and has as many indices as the port iterates levels

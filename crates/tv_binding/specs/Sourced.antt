@@ -8,8 +8,8 @@ use Rattle.tv_cell.specs.PieceValues.{piece_values}
 use Rattle.tv_cell.specs.Soundness.{AreSound}
 use Rattle.tv_outputs.specs.Known.{known, tree_in}
 use Rattle.tv_outputs.specs.Kept as outputs
-use Rattle.tv_wires.specs.declared.feeds.NumberedFeed.{NumberedFeed}
-use Rattle.tv_wires.specs.Turned.{links_of}
+use Rattle.tv_check.specs.declared.feeds.NumberedFeed.{NumberedFeed}
+use Rattle.tv_check.specs.Turned.{links_of}
 use Rattle.tv_binding.specs.Found.{Known}
 use Rattle.tv_binding.specs.declared.sources.Sources.{Sources}
 

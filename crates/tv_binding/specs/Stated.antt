@@ -5,8 +5,8 @@ use Rattle.tv_value.specs.Values.{Value, holds_fault}
 use Rattle.tv_parts.specs.Partials.{Partial, shows}
 use Rattle.tv_parts.specs.Below.{Below}
 use Rattle.tv_outputs.specs.FoundIn.{found_in}
-use Rattle.tv_wires.specs.declared.feeds.NumberedLink.{NumberedLink}
-use Rattle.tv_wires.specs.declared.feeds.NumberedFeed.{NumberedFeed}
+use Rattle.tv_check.specs.declared.feeds.NumberedLink.{NumberedLink}
+use Rattle.tv_check.specs.declared.feeds.NumberedFeed.{NumberedFeed}
 use Rattle.tv_binding.specs.Found.{Known, link_found, feed_found}
 use Rattle.tv_binding.specs.Delivered.{FlowValues, IsKnownOf, link_value, feed_value, wrapped_value}
 

@@ -15,9 +15,9 @@ use crate::sources::{Sources, feed_piece};
 use crate::wrapping::wrap;
 use std::alloc::Global;
 use tv_cell::{Piece, Pieces, Row};
+use tv_check::{NumberedFeed, Port};
 use tv_flow::StepInput;
 use tv_value::{Depths, Name, NoMemory, Tree};
-use tv_wires::{NumberedFeed, Port};
 
 /// What the jobs of a step need of its plan to find what they bind.
 #[derive(Clone, Copy)]

@@ -16,8 +16,8 @@ use crate::constants::Constants;
 use crate::sources::{Sources, cell_piece, link_piece};
 use std::alloc::Global;
 use tv_cell::{Cell, Piece, Pieces, Row};
+use tv_check::{NumberedFeed, NumberedLink};
 use tv_value::{NoMemory, Place};
-use tv_wires::{NumberedFeed, NumberedLink};
 
 /// What an event brings to each output of its step.
 #[derive(Clone, Copy)]

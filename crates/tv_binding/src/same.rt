@@ -15,8 +15,8 @@ use crate::constants::Constants;
 use crate::jobs::{StepPorts, part_of, wraps_of};
 use crate::sources::Sources;
 use tv_cell::{Cell, value_is_at};
+use tv_check::{NumberedFeed, NumberedLink, Port};
 use tv_value::Value;
-use tv_wires::{NumberedFeed, NumberedLink, Port};
 
 /// Whether the job at a place of a step's iteration binds these values, in the order of the ports: whether they are those of the
 /// pieces that `job_inputs` gives. `starts` has for each leaf of the strategy the index at which its part of the place begins.

@@ -9,11 +9,10 @@ ghost use Rattle.tv_binding.specs.Found.{link_found, merge_found, feed_found};
 ghost use Rattle.tv_binding.specs.Sourced.{known_by, Stand, IsCounted};
 
 use std::alloc::Global;
-use tv_cell::{Cell, Piece, Row};
+use tv_cell::{Cell, Path, Piece, Row};
+use tv_check::{NumberedFeed, NumberedLink};
 use tv_outputs::{Nodes, Outputs};
-use tv_path::Path;
 use tv_value::NoMemory;
-use tv_wires::{NumberedFeed, NumberedLink};
 
 /// Where the feeds of one instance's ports get their values.
 #[derive(Clone, Copy)]

@@ -16,10 +16,9 @@ use crate::constants::Constants;
 use crate::jobs::{StepPorts, part_of, port_piece, wraps_of};
 use crate::sources::{Sources, feed_piece};
 use std::alloc::Global;
-use tv_cell::{Cell, Piece, assemble};
-use tv_path::Path;
+use tv_cell::{Cell, Path, Piece, assemble};
+use tv_check::{NumberedFeed, NumberedLink, Port};
 use tv_value::{Copied, Items, NoMemory, Value};
-use tv_wires::{NumberedFeed, NumberedLink, Port};
 
 /// The values that the job at a place of a step's iteration binds, in the order of the ports: those
 /// of the pieces that `job_inputs` gives. Linear in the ports and in the values, with a walk for each

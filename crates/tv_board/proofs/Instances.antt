@@ -5,12 +5,12 @@ use Rattle.std.proofs.Common.{ap, subst, sym, ◌∙◌}
 use Rattle.std.proofs.lemmas.List.{length-map}
 use Rattle.std.specs.Cmp.{first_so, second_so}
 use Rattle.tv_lemmas.specs.Members.{In}
-use Rattle.tv_lemmas.proofs.OfMembers.{of-filter}
+use Rattle.tv_lemmas.proofs.Members.{of-filter}
 use Rattle.tv_value.specs.Nested.{Place}
 use Rattle.tv_value.specs.Values.{Name}
 use Rattle.tv_gate.specs.Outcomes.{Giving}
 use Rattle.tv_flow.specs.Flows.{Document, Flow, Step}
-use Rattle.tv_instance.specs.Steps.{declared_depths}
+use Rattle.tv_model.specs.instance.Steps.{declared_depths}
 use Rattle.tv_pool.specs.Pool.{live_count}
 use Rattle.tv_outputs.specs.Known.{Nodes}
 use Rattle.tv_model.specs.Jobs.{Job}
@@ -21,12 +21,12 @@ use Rattle.tv_model.specs.JobOrder.{Apart}
 use Rattle.tv_history.specs.Entries.{History}
 use Rattle.tv_history.specs.Histories.{is_open, is_settled, kept_results}
 use Rattle.tv_history.proofs.Ready.{document-whole}
-use Rattle.tv_framing.specs.Views.{View}
-use Rattle.tv_frame.proofs.OfComing.{as-declared}
-use Rattle.tv_beside.specs.Theirs.{AreTheirs, Frames}
+use Rattle.tv_run.specs.FramingViews.{View}
+use Rattle.tv_run.proofs.Coming.{as-declared}
+use Rattle.tv_run.specs.Theirs.{AreTheirs, Frames}
 use Rattle.tv_seats.specs.Seats.{Seat}
-use Rattle.tv_forest.specs.Forest.{Instance, Instances, IsAt, IsJobAt, Stand}
-use Rattle.tv_open.specs.Standing.{job_of}
+use Rattle.tv_run.specs.Forest.{Instance, Instances, IsAt, IsJobAt, Stand}
+use Rattle.tv_run.specs.InstancesStanding.{job_of}
 use Rattle.tv_board.proofs.Jobs.{Lives, lives, one-name}
 use Rattle.tv_board.proofs.Regions.{HasFrame, Housed, all-housed, outputs, spot}
 use Rattle.tv_board.proofs.Sums.{apart-filter, apart-made, made, sum-filter, sum-made}

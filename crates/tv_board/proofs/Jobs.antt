@@ -8,22 +8,22 @@ use Rattle.tv_value.specs.Nested.{Place}
 use Rattle.tv_value.specs.Values.{JobName, Name}
 use Rattle.tv_gate.specs.Outcomes.{Giving}
 use Rattle.tv_flow.specs.Flows.{Document, Flow, Step}
-use Rattle.tv_instance.specs.Steps.{spot}
-use Rattle.tv_instance.specs.Events.{has_result}
+use Rattle.tv_model.specs.instance.Steps.{spot}
+use Rattle.tv_model.specs.instance.Events.{has_result}
 use Rattle.tv_model.specs.Jobs.{Job}
 use Rattle.tv_model.specs.Meanings.{meaning}
 use Rattle.tv_history.specs.Entries.{History}
 use Rattle.tv_history.specs.Histories.{is_open, is_settled}
-use Rattle.tv_framing.specs.Views.{View}
-use Rattle.tv_forest.specs.views.InRun.{IsJobThere}
-use Rattle.tv_forest.proofs.views.OfLaws.{taken-is_running}
+use Rattle.tv_run.specs.FramingViews.{View}
+use Rattle.tv_run.specs.views.InRun.{IsJobThere}
+use Rattle.tv_run.proofs.views.LawLemmas.{taken-is_running}
 use Rattle.tv_seats.specs.Seats.{Seat}
-use Rattle.tv_forest.specs.seats.Seated.{spot_of}
-use Rattle.tv_forest.specs.Forest.{Instance, Instances, IsJobAt, Stand}
-use Rattle.tv_forest.proofs.OfInstances.{sits}
-use Rattle.tv_forest.proofs.firsts.OfInstances.{open-there, seats-of, settled-anywhere}
-use Rattle.tv_open.specs.Standing.{job_of}
-use Rattle.tv_beside.specs.nodes.Stated.{HasResult}
+use Rattle.tv_run.specs.seats.Seated.{spot_of}
+use Rattle.tv_run.specs.Forest.{Instance, Instances, IsJobAt, Stand}
+use Rattle.tv_run.proofs.ForestInstances.{sits}
+use Rattle.tv_run.proofs.forest_firsts.Instances.{open-there, seats-of, settled-anywhere}
+use Rattle.tv_run.specs.InstancesStanding.{job_of}
+use Rattle.tv_run.specs.nodes.Stated.{HasResult}
 
 -- the name of the job of a step and a place in an instance
 abbrev name_in : Instance → ℕ × Place → JobName

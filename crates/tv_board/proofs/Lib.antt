@@ -1,7 +1,7 @@
-mod OfCalls
-mod OfAnswers
-mod OfAsking
-mod OfTraced
+mod Calls
+mod Answers
+mod Asking
+mod TracedLemmas
 pub mod Sums
 pub mod Regions
 pub mod Jobs

@@ -2,17 +2,17 @@
 use Rattle.std.specs.Prelude.{◌≡◌, ℕ, Some, option_and_then, option_map, slice_get}
 use Rattle.std.proofs.Common.{ap, ◌∙◌}
 use Rattle.tv_check.specs.RunViews.{run_view}
-use Rattle.tv_framing.specs.Views.{View}
-use Rattle.tv_frame.specs.Tables.{levels_in}
-use Rattle.tv_forest.specs.Forest.{Instance, Instances, IsAt}
-use Rattle.tv_entries.specs.Runs.{past_of}
-use Rattle.tv_open.specs.declared.open.Open.{Open}
+use Rattle.tv_run.specs.FramingViews.{View}
+use Rattle.tv_run.specs.Tables.{levels_in}
+use Rattle.tv_run.specs.Forest.{Instance, Instances, IsAt}
+use Rattle.tv_history.specs.Runs.{past_of}
+use Rattle.tv_run.specs.Inner.{Open}
 use Rattle.tv_run.specs.Standing.{Fits, frame_at, run_of}
 use Rattle.tv_run.specs.declared.instances.Instance as code
 use Rattle.tv_run.specs.declared.run.OpenRun.{OpenRun}
-use Rattle.tv_run.proofs.OfItself.{its-code}
-use Rattle.tv_run.proofs.OfPlannedJobs.{result-deep}
-use Rattle.tv_run.proofs.OfPlans.{plan-there}
+use Rattle.tv_run.proofs.Itself.{its-code}
+use Rattle.tv_run.proofs.PlannedJobs.{result-deep}
+use Rattle.tv_run.proofs.PlanLemmas.{plan-there}
 use Rattle.tv_board.specs.Stated.{ResultsHaveNodes}
 use Rattle.tv_board.proofs.Instances.{kept-housed}
 use Rattle.tv_board.proofs.Regions.{HasFrame}

@@ -7,7 +7,7 @@ use Rattle.std.proofs.lemmas.Bool.{eqb-true}
 use Rattle.std.proofs.lemmas.List.{get_or_past}
 use Rattle.std.proofs.lemmas.Option.{get_or_from_slice_get, same_Some, slice_get_cases}
 use Rattle.tv_lemmas.specs.Members.{In}
-use Rattle.tv_lemmas.proofs.OfMembers.{of-filter}
+use Rattle.tv_lemmas.proofs.Members.{of-filter}
 use Rattle.tv_lemmas.proofs.Cases.{on_either}
 use Rattle.tv_value.specs.Nested.{Place}
 use Rattle.tv_value.specs.Values.{Name}
@@ -17,13 +17,13 @@ use Rattle.tv_pool.specs.declared.handles.Region.{Region}
 use Rattle.tv_check.specs.declared.plans.FlowPlan.{FlowPlan}
 use Rattle.tv_model.specs.JobOrder.{Apart}
 use Rattle.tv_outputs.specs.Known.{Nodes}
-use Rattle.tv_framing.specs.Views.{View}
-use Rattle.tv_frame.specs.Kept.{Keeps}
-use Rattle.tv_frame.specs.declared.frame.Frame.{Frame}
-use Rattle.tv_beside.specs.Theirs.{AreTheirs, Frames}
-use Rattle.tv_beside.proofs.OfRegions.{live-there}
-use Rattle.tv_beside.specs.nodes.Stated.{HasResult, HaveResults, output_count}
-use Rattle.tv_beside.proofs.nodes.Housed.{outputs-have_nodes}
+use Rattle.tv_run.specs.FramingViews.{View}
+use Rattle.tv_run.specs.Kept.{Keeps}
+use Rattle.tv_run.specs.Inner.{Frame}
+use Rattle.tv_run.specs.Theirs.{AreTheirs, Frames}
+use Rattle.tv_run.proofs.Regions.{live-there}
+use Rattle.tv_run.specs.nodes.Stated.{HasResult, HaveResults, output_count}
+use Rattle.tv_run.proofs.nodes.Housed.{outputs-have_nodes}
 use Rattle.tv_board.proofs.Sums.{all-different, all-in, apart-filter, apart-made, by-numbers, made, of-made, of_number, sum-made}
 
 -- a region that lives has one of the pool's numbers

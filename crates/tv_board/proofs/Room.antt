@@ -8,38 +8,38 @@ use Rattle.std.proofs.lemmas.List.Sums.{sum_by-cons}
 use Rattle.std.proofs.lemmas.Option.{get_or_from_slice_get, same_Some}
 use Rattle.std.specs.Cmp.{first_so, second_so}
 use Rattle.tv_lemmas.specs.Members.{Each}
-use Rattle.tv_lemmas.proofs.OfMembers.{in-slice}
+use Rattle.tv_lemmas.proofs.Members.{in-slice}
 use Rattle.tv_value.specs.Orders.{same_job, same_name}
 use Rattle.tv_value.specs.Values.{JobName, Name}
-use Rattle.tv_value.proofs.OfJobNames.{same_job_decides}
-use Rattle.tv_value.proofs.OfNames.{same_name-refl}
+use Rattle.tv_value.proofs.JobNameLemmas.{same_job_decides}
+use Rattle.tv_value.proofs.NameLemmas.{same_name-refl}
 use Rattle.tv_gate.specs.Outcomes.{Giving}
 use Rattle.tv_flow.specs.Flows.{Document, Flow}
-use Rattle.tv_instance.specs.Delivered.{StepMeaning}
+use Rattle.tv_model.specs.instance.Delivered.{StepMeaning}
 use Rattle.tv_pool.specs.Pool.{Contents, live_count, number_of, region_at, stored_in}
 use Rattle.tv_check.specs.RunViews.{run_view}
-use Rattle.tv_nodes.specs.declared.nodes.Entry.{Entry}
+use Rattle.tv_stream.specs.declared.nodes.Entry.{Entry}
 use Rattle.tv_stream.specs.declared.held.Held.{Held}
 use Rattle.tv_cell.specs.declared.piece.Piece.{Piece}
 use Rattle.tv_outputs.specs.Known.{Nodes}
-use Rattle.tv_instance.specs.ByResults.{InstanceStep}
+use Rattle.tv_model.specs.instance.ByResults.{InstanceStep}
 use Rattle.tv_model.specs.Made.{Meaning}
 use Rattle.tv_model.specs.Meanings.{meaning}
 use Rattle.tv_history.specs.Entries.{History}
 use Rattle.tv_history.specs.Histories.{has_open_instance, is_open, node_room, size_of, step_room}
-use Rattle.tv_framing.specs.Views.{View}
-use Rattle.tv_framing.proofs.OfFrames.{AreDistinct, Other, steps-distinct}
-use Rattle.tv_forest.proofs.views.OfRuns.{Runs, in-all, runs, steps_here, results_here}
-use Rattle.tv_forest.proofs.views.OfEndings.{own-instance, step-listed}
-use Rattle.tv_frame.specs.Tables.{levels_in}
-use Rattle.tv_frame.specs.declared.frame.Frame.{Frame}
-use Rattle.tv_beside.specs.Theirs.{AreTheirs, Frames}
-use Rattle.tv_forest.specs.Forest.{Instance, Instances, IsAt, Stand}
-use Rattle.tv_forest.proofs.OfInstances.{sits}
-use Rattle.tv_entries.specs.Runs.{past_of}
-use Rattle.tv_open.specs.declared.open.Open.{Open}
-use Rattle.tv_beside.proofs.nodes.Covering.{Covers, covered, one-where, sum_where}
-use Rattle.tv_beside.proofs.nodes.Room.{nodes-fit_steps}
+use Rattle.tv_run.specs.FramingViews.{View}
+use Rattle.tv_run.proofs.Frames.{AreDistinct, Other, steps-distinct}
+use Rattle.tv_run.proofs.views.Runs.{Runs, in-all, runs, steps_here, results_here}
+use Rattle.tv_run.proofs.views.Endings.{own-instance, step-listed}
+use Rattle.tv_run.specs.Tables.{levels_in}
+use Rattle.tv_run.specs.Inner.{Frame}
+use Rattle.tv_run.specs.Theirs.{AreTheirs, Frames}
+use Rattle.tv_run.specs.Forest.{Instance, Instances, IsAt, Stand}
+use Rattle.tv_run.proofs.ForestInstances.{sits}
+use Rattle.tv_history.specs.Runs.{past_of}
+use Rattle.tv_run.specs.Inner.{Open}
+use Rattle.tv_run.proofs.nodes.Covering.{Covers, covered, one-where, sum_where}
+use Rattle.tv_run.proofs.nodes.Room.{nodes-fit_steps}
 use Rattle.tv_run.specs.Standing.{Fits, IsLife, frame_at, run_of}
 use Rattle.tv_run.specs.declared.instances.Instance as code
 use Rattle.tv_run.specs.declared.run.OpenRun.{OpenRun}

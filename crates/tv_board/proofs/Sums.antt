@@ -8,7 +8,7 @@ use Rattle.std.proofs.lemmas.List.Filters.{sum_by-filter_both}
 use Rattle.std.proofs.lemmas.List.Kept.{AllPairs-cons}
 use Rattle.std.proofs.lemmas.List.Sums.{sum_by-cons}
 use Rattle.tv_lemmas.specs.Members.{In}
-use Rattle.tv_lemmas.proofs.OfMembers.{of-filter}
+use Rattle.tv_lemmas.proofs.Members.{of-filter}
 use Rattle.tv_model.specs.JobOrder.{Apart}
 
 -- ---- those that pass

@@ -4,7 +4,7 @@ use Rattle.std.specs.Prelude.{◌≤◌}
 use Rattle.tv_gate.specs.Outcomes.{Giving}
 use Rattle.tv_pool.specs.Pool.{live_count}
 use Rattle.tv_history.specs.Histories.{kept_results, node_room}
-use Rattle.tv_entries.specs.Runs.{meant, past_of}
+use Rattle.tv_history.specs.Runs.{meant, past_of}
 use Rattle.tv_run.specs.Standing.{StandsStill, run_of}
 use Rattle.tv_run.specs.declared.run.OpenRun.{OpenRun}
 

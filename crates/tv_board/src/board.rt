@@ -12,17 +12,17 @@ ghost use Rattle.tv_traces.specs.Settled.{settled_records};
 ghost use Rattle.tv_model.specs.Totals as model;
 ghost use Rattle.tv_model.specs.TotalsViews.{totals_view};
 ghost use Rattle.tv_history.specs.Histories.{is_done, kept_results, node_room};
-ghost use Rattle.tv_entries.specs.Answers.{question};
-ghost use Rattle.tv_entries.specs.Calls.{IsNothingOffered, IsTask, IsTaskFault, hands_out, out_now, totals_so_far, try_if_out};
-ghost use Rattle.tv_entries.specs.Declarations.{declared_for};
-ghost use Rattle.tv_entries.specs.Idle.{AreIdle};
+ghost use Rattle.tv_history.specs.Answers.{question};
+ghost use Rattle.tv_history.specs.Calls.{IsNothingOffered, IsTask, IsTaskFault, hands_out, out_now, totals_so_far, try_if_out};
+ghost use Rattle.tv_history.specs.Declarations.{declared_for};
+ghost use Rattle.tv_history.specs.Idle.{AreIdle};
 ghost use Rattle.tv_board.specs.Asked.{AsksAndAccepts, AsksOnceAtMost};
 ghost use Rattle.tv_board.specs.Refusals.{IsRefused, answered, told_or_back};
-ghost use Rattle.tv_entries.specs.Refusals.{IsAccepting};
-ghost use Rattle.tv_entries.specs.Runs.{Appends, IsLegalRun, meant, past_of};
-ghost use Rattle.tv_entries.specs.Moves.{IsMove};
-ghost use Rattle.tv_entries.specs.Settlements.{IsSettling};
-ghost use Rattle.tv_entries.specs.Recalls.{IsRecalled};
+ghost use Rattle.tv_history.specs.Refusals.{IsAccepting};
+ghost use Rattle.tv_history.specs.Runs.{Appends, IsLegalRun, meant, past_of};
+ghost use Rattle.tv_history.specs.Moves.{IsMove};
+ghost use Rattle.tv_history.specs.Settlements.{IsSettling};
+ghost use Rattle.tv_history.specs.Recalls.{IsRecalled};
 
 use crate::answer::Answer;
 use crate::refused::Refused;
@@ -30,8 +30,8 @@ use std::alloc::Global;
 use std::marker::{Model, PhantomData};
 use std::mem;
 use tv_check::CheckedRun;
-use tv_entries::{Accepted, Entry, Moved, Task, TaskFault, Tested, Ticket};
 use tv_gate::{Asker, Services};
+use tv_history::{Accepted, Entry, Moved, Task, TaskFault, Tested, Ticket};
 use tv_lineage::Records;
 use tv_model::Totals;
 use tv_run::OpenRun;
@@ -47,9 +47,9 @@ pub struct Board<V: Services> {
 }
 
 impl<V: Services> Model for Board<V> {
-    ghost use Rattle.tv_entries.specs.Runs.{Run};
-    ghost use Rattle.tv_entries.specs.RunCodes.{coded_run};
-    ghost use Rattle.tv_entries.specs.contracts.entry.Entry as entry_type;
+    ghost use Rattle.tv_history.specs.Runs.{Run};
+    ghost use Rattle.tv_history.specs.RunCodes.{coded_run};
+    ghost use Rattle.tv_history.specs.contracts.entry.Entry as entry_type;
 
     ghost Value = { Run };
 

@@ -2,8 +2,8 @@
 //! open instances have room: laws, of which the program runs nothing.
 //!
 //! Each open instance of a run has a frame, which keeps its trees in a region of its own of the one
-//! pool (`tv_beside`). The region of a frame has a node for each output of each job with a result
-//! (`tv_beside`). So the live regions together have a node for each result that the run keeps. Each live
+//! pool (`tv_frame_laws`). The region of a frame has a node for each output of each job with a result
+//! (`tv_frame_laws`). So the live regions together have a node for each result that the run keeps. Each live
 //! region is a frame's, and has no more nodes than the values at the outputs of its instance's steps and
 //! their iterations.
 //!

@@ -1,7 +1,7 @@
 //! The board of a run: its history, what may be done next, and what is known so far.
 //!
 //! A `Board` has a checked document and the list of what was done for it. A contract sees the document, the names of the jobs
-//! that have numbers, and the entries (`tv_entries`): the history is legal at every moment by the definitions of `tv_history`,
+//! that have numbers, and the entries (`tv_history`): the history is legal at every moment by the definitions of `tv_history`,
 //! and each call appends one entry or none. The board knows only the outcomes that were accepted. What it works out by them is
 //! so by the services too.
 //!
@@ -40,4 +40,4 @@ pub use answer::{Answer, ask, ask_alone};
 pub use board::Board;
 pub use refused::Refused;
 pub use traced::Traced;
-pub use tv_entries::{Accepted, Entry, JobState, Moved, Task, TaskFault, Ticket};
+pub use tv_history::{Accepted, Entry, JobState, Moved, Task, TaskFault, Ticket};

@@ -2,7 +2,7 @@
 ghost use Rattle.std.specs.Prelude.{◌≡◌, IfErr, IfOk, map, option_map, true};
 ghost use Rattle.tv_model.specs.records.Recorded.{leaves, main_records, marks_of, output_at};
 ghost use Rattle.tv_history.specs.Histories.{is_done};
-ghost use Rattle.tv_entries.specs.Runs.{meant, past_of};
+ghost use Rattle.tv_history.specs.Runs.{meant, past_of};
 ghost use Rattle.tv_lineage.specs.Kept.{records_of};
 ghost use Rattle.tv_lineage.specs.Members.{HaveSame};
 ghost use Rattle.tv_lineage.specs.Views.{leaf_view, mark_view};
@@ -25,9 +25,9 @@ pub struct Traced<V: Services> {
 }
 
 impl<V: Services> Model for Traced<V> {
-    ghost use Rattle.tv_entries.specs.Runs.{Run};
-    ghost use Rattle.tv_entries.specs.RunCodes.{coded_run};
-    ghost use Rattle.tv_entries.specs.contracts.entry.Entry as entry_type;
+    ghost use Rattle.tv_history.specs.Runs.{Run};
+    ghost use Rattle.tv_history.specs.RunCodes.{coded_run};
+    ghost use Rattle.tv_history.specs.contracts.entry.Entry as entry_type;
 
     ghost Value = { Run };
 

@@ -14,8 +14,8 @@ use Rattle.tv_cell.specs.declared.piece.Piece.TheViews as code
 use Rattle.tv_cell.specs.Found.{found_value}
 use Rattle.tv_cell.specs.PieceValues.{piece_value, piece_values}
 use Rattle.tv_value.specs.Sameness.{same_value, same_values}
-use Rattle.tv_cell.proofs.OfPieces.{list-value, list-view, part-value}
-use Rattle.tv_value.proofs.OfSameness.{same_trees-each, same_value-turned}
+use Rattle.tv_cell.proofs.PieceLemmas.{list-value, list-view, part-value}
+use Rattle.tv_value.proofs.Sameness.{same_trees-each, same_value-turned}
 
 pub list-stands : (p : Piece) (ps qs : List Piece) (v : Value) (vs : Items) (us : List Value) → p ≡ code.List ps → qs ≡ ps → v ≡ held.List vs → trees_of (map view us) ≡ items_view vs → same_values (piece_values qs) (map view us) ≡ same_value (piece_value p) (view v)
 list-stands p ps qs v vs us e f g h =

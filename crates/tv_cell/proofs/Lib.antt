@@ -1,5 +1,5 @@
-pub mod OfPieces
-pub mod OfParts
-pub mod OfSizes
+pub mod PieceLemmas
+pub mod Parts
+pub mod Sizes
 pub mod Compared
-pub mod OfFaults
+pub mod Faults

@@ -4,11 +4,11 @@ ghost use Rattle.tv_value.specs.Values.{holds_fault};
 ghost use Rattle.tv_value.specs.Views.{error_view, view};
 ghost use Rattle.tv_cell.specs.Found.{document_of, found_value, is_document};
 
+use crate::Path;
 use crate::looking::value_at;
 use std::alloc::Global;
 use std::marker::Model;
 use std::sync::Arc;
-use tv_path::Path;
 use tv_value::{ErrorDoc, NoMemory, Value};
 
 /// A value, and whether it is an error document or contains one.

@@ -2,7 +2,7 @@
 //!
 //! An engine hands the same values to many jobs, in any threads, and takes them apart and together again. Here a value
 //! is put once into a `Cell`; what stands for it, for a part of it, or for a list of such parts is a `Piece`, which copies
-//! no value, and keeps places small (`tv_path`). A contract sees a cell as the very value that was put, and a piece as a
+//! no value, and keeps places small (`path`). A contract sees a cell as the very value that was put, and a piece as a
 //! tree of such values and of places in them. `specs/PieceValues.antt` says which value a piece stands for, and
 //! `specs/Soundness.antt` when it points at something throughout.
 //!
@@ -19,11 +19,22 @@
 //! - `assembly`: the value that a piece stands for
 //! - `same`: whether two pieces are the same
 //! - `threads`: both may cross threads
+//!
+//! **Places kept small.** A place in a value is a list of indices. `tv_value::Place` holds 32 of them
+//! in itself, so that work on places isn't refused, and has 144 bytes. Pieces of values are kept
+//! by the thousand and moved often, their places have an index or two, and copies of them may be
+//! refused for memory anyway. So a piece keeps its place as a `Path`, of 40 bytes.
+//!
+//! A contract sees a path as the list of its indices. The crate promises that paths are made,
+//! joined and copied exactly, and that no path of at most five indices is refused.
+//!
+//! - `path`: the paths
 #![tactic(auto)]
 
 mod assembly;
 mod cell;
 mod looking;
+mod path;
 mod piece;
 mod row;
 mod same;
@@ -31,6 +42,7 @@ mod threads;
 
 pub use assembly::assemble;
 pub use cell::Cell;
+pub use path::Path;
 pub use piece::{Piece, Pieces};
 pub use row::Row;
 pub use same::value_is_at;

@@ -8,11 +8,11 @@ ghost use Rattle.tv_cell.specs.Found.{found_value, is_document};
 ghost use Rattle.tv_cell.specs.PieceValues.{list_length, piece_value};
 ghost use Rattle.tv_cell.specs.Soundness.{IsSound, is_sound};
 
+use crate::Path;
 use crate::cell::Cell;
 use crate::looking::{thing_at, value_at};
 use crate::row::Row;
 use std::alloc::Global;
-use tv_path::Path;
 use tv_value::{Copied, NoMemory, Value};
 
 /// A value as a tree of cells: what stands for a value, and shares it.

@@ -6,8 +6,8 @@ use Rattle.tv_value.specs.Activities.{Activity, service, nested}
 use Rattle.tv_flow.specs.Flows.{Feed, Step, Flow, Document}
 use Rattle.tv_naming.specs.Faulty.{CheckComplaint, plainly, strategy_ports, no_such_port, no_such_flow, at_main, at_step, at_input, at_after, at_flow_output, first_of}
 use Rattle.tv_naming.specs.Naming.{complain_if, has_name, fits_ports, link_complaints, numbered, activity_complaints, step_naming, flow_naming, naming_complaints}
-use Rattle.tv_depths.specs.Cycles.{cycle_complaints, nesting_complaints, link_cycle_complaints}
-use Rattle.tv_depths.specs.Depthwise.{depth_complaints}
+use Rattle.tv_check.specs.Cycles.{cycle_complaints, nesting_complaints, link_cycle_complaints}
+use Rattle.tv_check.specs.Depthwise.{depth_complaints}
 use Rattle.tv_naming.specs.Inputs.{given_complaints}
 use Rattle.tv_check.specs.Passes.{complaints, checked}
 use Rattle.tv_check.specs.Plans.{IsAccepted}

@@ -7,19 +7,19 @@ use Rattle.tv_lemmas.specs.Members.{Each}
 use Rattle.tv_value.specs.Values.{Name}
 use Rattle.tv_flow.specs.Flows.{Flow, Document}
 use Rattle.tv_flow.specs.Formed.{is_ascending, is_flow}
-use Rattle.tv_graph.specs.Graphs.{by_least}
-use Rattle.tv_graph.proofs.Cycles.{no_cycle-all_come, all_come-no_cycle}
+use Rattle.tv_naming.specs.graphs.Graphs.{by_least}
+use Rattle.tv_naming.proofs.Cycles.{no_cycle-all_come, all_come-no_cycle}
 use Rattle.tv_naming.specs.Faulty.{CheckComplaint, plainly, link_cycle, at_step, first_of}
-use Rattle.tv_instance.specs.Ranks.{earlier_steps, ranked}
-use Rattle.tv_depths.specs.Cycles.{reaches, steps_before, flow_link_cycles, link_cycle_complaints}
+use Rattle.tv_model.specs.instance.Ranks.{earlier_steps, ranked}
+use Rattle.tv_check.specs.Cycles.{reaches, steps_before, flow_link_cycles, link_cycle_complaints}
 use Rattle.tv_check.specs.NamedGraphs.{numbers_of, links_inside}
 use Rattle.tv_check.specs.RankLaws.{is_acyclic}
-use Rattle.tv_naming.proofs.OfLists.{each-get}
+use Rattle.tv_naming.proofs.Lists.{each-get}
 use Rattle.tv_naming.proofs.ByPosition.{names_of}
-use Rattle.tv_check.proofs.OfGraphs.{graph, at, graph_of-is}
-use Rattle.tv_check.proofs.OfCycles.{first-reaching, on_cycle, first-told}
-use Rattle.tv_naming.proofs.OfForms.{steps-named}
-use Rattle.tv_check.proofs.OfRanks.{ranked-numbers}
+use Rattle.tv_check.proofs.GraphLemmas.{graph, at, graph_of-is}
+use Rattle.tv_check.proofs.CycleLemmas.{first-reaching, on_cycle, first-told}
+use Rattle.tv_naming.proofs.Forms.{steps-named}
+use Rattle.tv_check.proofs.Ranks.{ranked-numbers}
 
 none-fails : {X : Type 0} (p : X → Bool) (xs : List X) → list_all (λ x. not (p x)) xs ≡ true → find p xs ≡ None
 none-fails p [] e = refl

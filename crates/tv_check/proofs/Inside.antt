@@ -13,10 +13,10 @@ use Rattle.tv_value.specs.Activities.{Activity, service, nested}
 use Rattle.tv_flow.specs.Flows.{Link, input, output, Feed, link, merge, constant, Step, Flow, Document}
 use Rattle.tv_naming.specs.Faulty.{Where, CheckComplaint, plainly, no_such_port, no_such_flow, at_main, at_input, at_after}
 use Rattle.tv_naming.specs.Naming.{has_name, is_there, complain_if, link_complaints, numbered, activity_complaints, step_naming, flow_naming, naming_complaints}
-use Rattle.tv_instance.specs.Ranks.{link_step, feed_steps, earlier_steps}
-use Rattle.tv_depths.specs.Cycles.{opened_flow, opened_flows}
+use Rattle.tv_model.specs.instance.Ranks.{link_step, feed_steps, earlier_steps}
+use Rattle.tv_check.specs.Cycles.{opened_flow, opened_flows}
 use Rattle.tv_check.specs.NamedGraphs.{leads_inside, links_inside, names_inside}
-use Rattle.tv_naming.proofs.OfLists.{list_all-at}
+use Rattle.tv_naming.proofs.Lists.{list_all-at}
 
 pub nil-each : {X Y : Type 0} (f : X → List Y) (xs : List X) → flat_map f xs ≡ [] → Each (λ x. f x ≡ []) xs
 nil-each f [] e = tt

@@ -17,25 +17,25 @@ use Rattle.tv_value.specs.Strategies.{Strategy}
 use Rattle.tv_value.specs.Activities.{Activity, service, nested}
 use Rattle.tv_flow.specs.Flows.{Step, Flow, Document}
 use Rattle.tv_flow.specs.Formed.{is_ascending, is_formed}
-use Rattle.tv_graph.specs.Graphs.{Graph, before, greatest, height}
-use Rattle.tv_graph.proofs.Depths.{height-next}
-use Rattle.tv_instance.specs.Ranks.{ranked}
+use Rattle.tv_naming.specs.graphs.Graphs.{Graph, before, greatest, height}
+use Rattle.tv_naming.proofs.Depths.{height-next}
+use Rattle.tv_model.specs.instance.Ranks.{ranked}
 use Rattle.tv_naming.specs.Faulty.{CheckComplaint, plainly, strategy_ports, no_such_flow, at_main, at_step, first_of}
 use Rattle.tv_naming.specs.Naming.{has_name, fits_ports, complain_if, step_naming, flow_naming, naming_complaints}
-use Rattle.tv_depths.specs.Cycles.{opened_flow, opened_flows, flows_in, nestings, cycle_complaints}
+use Rattle.tv_check.specs.Cycles.{opened_flow, opened_flows, flows_in, nestings, cycle_complaints}
 use Rattle.tv_naming.specs.Numbers.{position}
 use Rattle.tv_check.specs.RankNumbers.{numbers_by_rank}
 use Rattle.tv_check.specs.NamedGraphs.{numbers_of, leads_inside}
-use Rattle.tv_depths.specs.Tables.{AreAt, has_fitting}
+use Rattle.tv_check.specs.Tables.{AreAt, has_fitting}
 use Rattle.tv_check.specs.Plannable.{AreByRank}
-use Rattle.tv_depths.specs.Measured.{flow_nesting, opens_lower, AreOrders, IsPrepared}
-use Rattle.tv_naming.proofs.OfLists.{each-at, map-same, map-each, pair-same}
+use Rattle.tv_check.specs.Measured.{flow_nesting, opens_lower, AreOrders, IsPrepared}
+use Rattle.tv_naming.proofs.Lists.{each-at, map-same, map-each, pair-same}
 use Rattle.tv_naming.proofs.ByPosition.{names_of, there}
-use Rattle.tv_check.proofs.OfCycles.{IsThere, each-there}
-use Rattle.tv_check.proofs.OfGraphs.{graph, at, before-next, graph_of-is}
-use Rattle.tv_check.proofs.OfRanks.{ranked-there, numbers-all}
-use Rattle.tv_check.proofs.OfNestings.{opened-there, nest, cycle-free}
-use Rattle.tv_naming.proofs.OfForms.{flows-named, steps-named}
+use Rattle.tv_check.proofs.CycleLemmas.{IsThere, each-there}
+use Rattle.tv_check.proofs.GraphLemmas.{graph, at, before-next, graph_of-is}
+use Rattle.tv_check.proofs.Ranks.{ranked-there, numbers-all}
+use Rattle.tv_check.proofs.Nestings.{opened-there, nest, cycle-free}
+use Rattle.tv_naming.proofs.Forms.{flows-named, steps-named}
 use Rattle.tv_check.proofs.Inside.{nil-each, each-all, each-by, names-inside}
 
 -- ---- the steps of a flow by rank, by their numbers

@@ -13,21 +13,21 @@ use Rattle.tv_flow.specs.Flows.{Flow, Document}
 use Rattle.tv_flow.specs.Formed.{is_flow, is_formed}
 use Rattle.tv_naming.specs.Faulty.{CheckComplaint, plainly, no_such_flow, at_main, too_deep, at_flow, with_numbers, first_of}
 use Rattle.tv_naming.specs.Naming.{has_name, complain_if, flow_naming, naming_complaints}
-use Rattle.tv_depths.specs.Cycles.{nesting_complaints, link_cycle_complaints}
-use Rattle.tv_instance.specs.Nesting.{nesting_limit}
+use Rattle.tv_check.specs.Cycles.{nesting_complaints, link_cycle_complaints}
+use Rattle.tv_model.specs.instance.Nesting.{nesting_limit}
 use Rattle.tv_check.specs.Plans.{IsAccepted}
 use Rattle.tv_check.specs.PlanViews.{IsOfDocument}
 use Rattle.tv_check.specs.RankNumbers.{numbers_by_rank}
 use Rattle.tv_check.specs.NamedGraphs.{links_inside}
-use Rattle.tv_depths.specs.Measured.{IsProgress, flow_nesting}
+use Rattle.tv_check.specs.Measured.{IsProgress, flow_nesting}
 use Rattle.tv_check.specs.Plannable.{AreByRank, is_ranked, IsToPlan, IsPlannable}
-use Rattle.tv_depths.specs.declared.measured.Measured.{Measured}
+use Rattle.tv_check.specs.declared.measured.Measured.{Measured}
 use Rattle.tv_check.proofs.AllRanked.{all-ranked-formed, flow-acyclic}
 use Rattle.tv_naming.proofs.ByPosition.{named-at}
 use Rattle.tv_check.proofs.Inside.{nil-each, each-all, silent, names-inside}
-use Rattle.tv_depths.proofs.OfNested.{worked-at, worked-length}
-use Rattle.tv_naming.proofs.OfForms.{flows-named}
-use Rattle.tv_naming.proofs.OfLists.{each-get, each-at, list_all-at}
+use Rattle.tv_check.proofs.NestedLemmas.{worked-at, worked-length}
+use Rattle.tv_naming.proofs.Forms.{flows-named}
+use Rattle.tv_naming.proofs.Lists.{each-get, each-at, list_all-at}
 
 -- ---- a flow of a document
 

@@ -17,10 +17,10 @@ use Rattle.tv_strategy.specs.Measures.{all_leaf_names, leaf_names}
 use Rattle.tv_naming.specs.Naming.{fits_ports, naming_complaints}
 use Rattle.tv_naming.specs.Inputs.{given_complaints}
 use Rattle.tv_naming.proofs.FormedParts.{few, passes, step-at, step-inputs}
-use Rattle.tv_depths.specs.Cycles.{cycle_complaints, link_cycle_complaints, nesting_complaints}
-use Rattle.tv_depths.specs.Depthwise.{depth_complaints}
-use Rattle.tv_instance.specs.Steps.{ports_of, strategy_of}
-use Rattle.tv_depths.specs.Tables.{has_fitting}
+use Rattle.tv_check.specs.Cycles.{cycle_complaints, link_cycle_complaints, nesting_complaints}
+use Rattle.tv_check.specs.Depthwise.{depth_complaints}
+use Rattle.tv_model.specs.instance.Steps.{ports_of, strategy_of}
+use Rattle.tv_check.specs.Tables.{has_fitting}
 use Rattle.tv_check.specs.Passes.{checked, complaints}
 use Rattle.tv_check.specs.Plans.{IsAccepted}
 use Rattle.tv_check.specs.PlanViews.{IsOfDocument}

@@ -8,8 +8,8 @@ use Rattle.tv_value.specs.Values.{Name, ErrorDoc, JobName, Text, Scalar, text, f
 use Rattle.tv_value.specs.Strategies.{Strategy, port, cross, dot, Strategies, no_strategies, strategy}
 use Rattle.tv_value.specs.Activities.{Activity, service, nested}
 use Rattle.tv_flow.specs.Flows.{Link, input, output, Feed, link, merge, constant, StepInput, Step, Flow}
-use Rattle.tv_wires.specs.Codes.{coded_wiring}
-use Rattle.tv_wires.specs.declared.wiring.Wiring.{Wiring}
+use Rattle.tv_check.specs.WireCodes.{coded_wiring}
+use Rattle.tv_check.specs.declared.wiring.Wiring.{Wiring}
 use Rattle.tv_check.specs.Plans as plan
 
 -- ---- trees: each node in the order of reading, a list with the number of its items

@@ -3,10 +3,10 @@ use Rattle.std.specs.Prelude.{ℕ, List, map, Bool, filter_map, ◌&&◌}
 use Rattle.std.specs.List.{list_all}
 use Rattle.tv_value.specs.Values.{Name}
 use Rattle.tv_flow.specs.Flows.{Flow, Document}
-use Rattle.tv_graph.specs.Graphs.{Graph}
-use Rattle.tv_instance.specs.Ranks.{earlier_steps}
+use Rattle.tv_naming.specs.graphs.Graphs.{Graph}
+use Rattle.tv_model.specs.instance.Ranks.{earlier_steps}
 use Rattle.tv_naming.specs.Naming.{has_name}
-use Rattle.tv_depths.specs.Cycles.{opened_flows}
+use Rattle.tv_check.specs.Cycles.{opened_flows}
 use Rattle.tv_naming.specs.Numbers.{number_in}
 
 -- of the names that are there

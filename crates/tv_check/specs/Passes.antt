@@ -4,8 +4,8 @@ use Rattle.tv_value.specs.Values.{Name}
 use Rattle.tv_flow.specs.Flows.{Document}
 use Rattle.tv_naming.specs.Faulty.{CheckComplaint, first_of}
 use Rattle.tv_naming.specs.Naming.{naming_complaints}
-use Rattle.tv_depths.specs.Cycles.{cycle_complaints, nesting_complaints, link_cycle_complaints}
-use Rattle.tv_depths.specs.Depthwise.{depth_complaints}
+use Rattle.tv_check.specs.Cycles.{cycle_complaints, nesting_complaints, link_cycle_complaints}
+use Rattle.tv_check.specs.Depthwise.{depth_complaints}
 use Rattle.tv_naming.specs.Inputs.{given_complaints}
 
 -- Names, nesting, links, depths, inputs. What a pass says counts only where those before it say nothing, as the first complaint does.

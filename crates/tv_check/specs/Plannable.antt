@@ -5,13 +5,13 @@ use Rattle.std.specs.List.{list_all}
 use Rattle.tv_value.specs.Values.{Name}
 use Rattle.tv_flow.specs.Flows.{Flow, Document}
 use Rattle.tv_flow.specs.Formed.{is_flow, is_formed}
-use Rattle.tv_instance.specs.Ranks.{ranked}
+use Rattle.tv_model.specs.instance.Ranks.{ranked}
 use Rattle.tv_naming.specs.Naming.{has_name}
 use Rattle.tv_check.specs.Plans.{IsAccepted}
 use Rattle.tv_check.specs.PlanViews.{IsOfDocument}
 use Rattle.tv_check.specs.RankNumbers.{numbers_by_rank}
-use Rattle.tv_depths.specs.Measured.{IsWorked, AreWorked}
-use Rattle.tv_depths.specs.declared.measured.Measured.{Measured}
+use Rattle.tv_check.specs.Measured.{IsWorked, AreWorked}
+use Rattle.tv_check.specs.declared.measured.Measured.{Measured}
 
 -- for each flow the numbers of its steps, by rank
 abbrev pub AreByRank : List (Name × Flow) → List (Vec ℕ Global) → Type 0

@@ -3,12 +3,12 @@ use Rattle.std.specs.Prelude.{◌≡◌, ℕ, List, map, Option, Some}
 use Rattle.tv_flow.specs.Flows.{Step, Flow}
 use Rattle.tv_value.specs.Values.{Name}
 use Rattle.tv_strategy.specs.Measures.{strategy_depth}
-use Rattle.tv_instance.specs.CheckedDepths.{port_depth, flow_depths}
-use Rattle.tv_instance.specs.Ranks.{ranked}
-use Rattle.tv_instance.specs.Steps.{strategy_of}
+use Rattle.tv_model.specs.instance.CheckedDepths.{port_depth, flow_depths}
+use Rattle.tv_model.specs.instance.Ranks.{ranked}
+use Rattle.tv_model.specs.instance.Steps.{strategy_of}
 use Rattle.tv_naming.specs.Numbers.{position}
 use Rattle.tv_check.specs.Plans as plan
-use Rattle.tv_depths.specs.Tables.{IsMeasured, table_depth, table_mismatch}
+use Rattle.tv_check.specs.Tables.{IsMeasured, table_depth, table_mismatch}
 
 -- with this rank, and this depth of its strategy
 abbrev pub planned : Flow → List (Option ℕ) → ℕ → ℕ → Step → plan.StepPlan

@@ -5,13 +5,13 @@ use Rattle.tv_value.specs.Values.{Name}
 use Rattle.tv_value.specs.Strategies.{Strategy}
 use Rattle.tv_flow.specs.Flows.{Step, Flow, Document}
 use Rattle.tv_strategy.specs.Measures.{strategy_depth}
-use Rattle.tv_instance.specs.Ranks.{ranked}
-use Rattle.tv_instance.specs.Steps.{strategy_of}
-use Rattle.tv_instance.specs.CheckedDepths.{feed_depth, port_depth, flow_depths, measured_outputs}
+use Rattle.tv_model.specs.instance.Ranks.{ranked}
+use Rattle.tv_model.specs.instance.Steps.{strategy_of}
+use Rattle.tv_model.specs.instance.CheckedDepths.{feed_depth, port_depth, flow_depths, measured_outputs}
 use Rattle.tv_check.specs.Passes.{checked}
 use Rattle.tv_naming.specs.Numbers.{position}
-use Rattle.tv_wires.specs.Wirings.{wiring}
-use Rattle.tv_wires.specs.declared.wiring.Wiring.{Wiring}
+use Rattle.tv_check.specs.Wirings.{wiring}
+use Rattle.tv_check.specs.declared.wiring.Wiring.{Wiring}
 
 pub record StepPlan : Type 0 where
   pub rank : ℕ

@@ -5,8 +5,8 @@ use Rattle.tv_value.specs.Values.{Name}
 use Rattle.tv_flow.specs.Flows.{Flow, Document}
 use Rattle.tv_flow.specs.Formed.{is_flow}
 use Rattle.tv_naming.specs.Naming.{naming_complaints}
-use Rattle.tv_instance.specs.Ranks.{ranked}
-use Rattle.tv_depths.specs.Cycles.{reaches, steps_before}
+use Rattle.tv_model.specs.instance.Ranks.{ranked}
+use Rattle.tv_check.specs.Cycles.{reaches, steps_before}
 use Rattle.tv_check.specs.NamedGraphs.{links_inside, names_inside}
 
 -- whether no step reaches itself

@@ -2,7 +2,7 @@
 use Rattle.std.specs.Prelude.{ℕ, suc, List, [], ◌∷◌, map, ◌==◌, if◌then◌else◌}
 use Rattle.tv_value.specs.Values.{Name}
 use Rattle.tv_flow.specs.Flows.{Step}
-use Rattle.tv_instance.specs.Ranks.{ranked}
+use Rattle.tv_model.specs.instance.Ranks.{ranked}
 use Rattle.tv_naming.specs.Numbers.{position}
 
 -- the number of each step, in the order of ranks

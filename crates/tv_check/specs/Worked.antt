@@ -5,7 +5,7 @@ use Rattle.tv_value.specs.Values.{Name, Value, text_value, list_value}
 use Rattle.tv_value.specs.Strategies.{Strategy, port, dot, strategy, no_strategies}
 use Rattle.tv_value.specs.Activities.{Activity, service, nested}
 use Rattle.tv_flow.specs.Flows.{input, output, Feed, link, merge, StepInput, Step, Flow, Document}
-use Rattle.tv_instance.specs.Ranks.{is_among}
+use Rattle.tv_model.specs.instance.Ranks.{is_among}
 use Rattle.tv_naming.specs.Faulty.{no_such_port, no_such_service, no_such_flow, flow_cycle, link_cycle, strategy_ports, dot_depths, merge_depths, nested_ports, too_deep, input_missing, input_unknown, input_depth, at_main, at_flow, at_step, at_input, at_output, at_activity, at_after, at_flow_output, at_given, plainly, with_numbers}
 use Rattle.tv_check.specs.Passes.{checked}
 

@@ -9,12 +9,12 @@ ghost use Rattle.tv_check.specs.Plans.{flow_plan, flow_plans};
 ghost use Rattle.tv_naming.specs.Numbers.{position};
 ghost use Rattle.tv_check.specs.RunViews.{run_view};
 
+use crate::Measured;
 use crate::cycles::ranks;
 use crate::planning::flow_plan;
 use crate::plans::{FlowPlan, FlowPlans};
 use crate::run::CheckedRun;
 use std::alloc::Global;
-use tv_depths::Measured;
 use tv_flow::{Document, Flow};
 use tv_naming::number_of;
 use tv_value::{NoMemory, Sequence};

@@ -2,7 +2,7 @@
 ghost use Rattle.std.specs.Prelude.{◌≡◌, ◌++◌, IfOk, List, [], option_map};
 ghost use Rattle.tv_flow.specs.DocumentViews.{document_view};
 ghost use Rattle.tv_check.specs.Answered.{IsCheckOf};
-ghost use Rattle.tv_depths.specs.Cycles.{nestings, cycle_complaints, nesting_complaints, link_cycle_complaints};
+ghost use Rattle.tv_check.specs.Cycles.{nestings, cycle_complaints, nesting_complaints, link_cycle_complaints};
 ghost use Rattle.tv_naming.specs.Faulty.{CheckComplaint, first_of};
 ghost use Rattle.tv_naming.specs.FaultViews.{fault_view};
 ghost use Rattle.tv_naming.specs.Naming.{naming_complaints};
@@ -11,10 +11,10 @@ ghost use Rattle.tv_naming.specs.Told.{IsToldOf};
 
 use crate::accepted::checked_run;
 use crate::cycles::{flow_cycle_fault, link_cycle_fault, nesting_fault, nestings};
+use crate::document_measured;
 use crate::orders::orders_of;
 use crate::run::CheckedRun;
 use std::alloc::Global;
-use tv_depths::document_measured;
 use tv_flow::Document;
 use tv_gate::Services;
 use tv_naming::{CheckFault, CheckRefused, given_fault, naming_fault};

@@ -4,19 +4,18 @@ ghost use Rattle.std.specs.List.{list_all, range_with_len};
 ghost use Rattle.tv_flow.specs.Views.{each, flow_view};
 ghost use Rattle.tv_flow.specs.Formed.{is_flow};
 ghost use Rattle.tv_flow.specs.DocumentViews.{document_view};
-ghost use Rattle.tv_graph.specs.Graphs.{by_least, first_on_cycle, heights};
+ghost use Rattle.tv_naming.specs.graphs.Graphs.{by_least, first_on_cycle, heights};
 ghost use Rattle.tv_check.specs.NamedGraphs.{leads_inside, links_inside};
 ghost use Rattle.tv_check.specs.RankNumbers.{numbers_by_rank, ranks_by_number, first_at};
 ghost use Rattle.tv_naming.specs.FaultViews.{fault_view};
 ghost use Rattle.tv_naming.specs.Faulty.{at_flow, at_step, flow_cycle, link_cycle, plainly, too_deep, with_numbers, first_of};
-ghost use Rattle.tv_depths.specs.Cycles.{cycle_complaints, flow_link_cycles, link_cycle_complaints, nesting_complaints, nestings, opened_flows};
-ghost use Rattle.tv_instance.specs.Nesting.{nesting_limit};
+ghost use Rattle.tv_check.specs.Cycles.{cycle_complaints, flow_link_cycles, link_cycle_complaints, nesting_complaints, nestings, opened_flows};
+ghost use Rattle.tv_model.specs.instance.Nesting.{nesting_limit};
 
 use crate::graphs::{flow_graph, step_graph};
 use std::alloc::Global;
 use tv_flow::{Document, Flow};
-use tv_graph::Graph;
-use tv_naming::{CheckFault, CheckKind, Spot};
+use tv_naming::{CheckFault, CheckKind, Graph, Spot};
 use tv_value::{Copied, Name, NoMemory};
 
 /// The first flow in byte order that opens itself, by however many flows. Near linear in flows and activities, with a look-up
@@ -48,11 +47,11 @@ fn flow_cycle(alloc: Global, flow: &Name) -> Result<CheckFault, NoMemory>
     })
 }
 
-/// As that of `tv_graph`.
+/// As that of `tv_naming`.
 fn first_on_cycle(alloc: Global, graph: &Graph) -> Result<Option<u32>, NoMemory>
     ensures { IfOk result (λ v. v ≡ first_on_cycle graph.now) }
 {
-    tv_graph::first_on_cycle(alloc, graph).map_err(|_error| NoMemory)
+    tv_naming::first_on_cycle(alloc, graph).map_err(|_error| NoMemory)
 }
 
 /// The first step in byte order, flow by flow, that comes before itself. Near linear in the steps and links of the flows up
@@ -135,11 +134,11 @@ fn places(alloc: Global, list: &[u32], count: usize) -> Result<Vec<u32>, NoMemor
     Ok(places)
 }
 
-/// As that of `tv_graph`.
+/// As that of `tv_naming`.
 fn by_least(alloc: Global, graph: &Graph) -> Result<Vec<u32>, NoMemory>
     ensures { IfOk result (λ vs. vs.items ≡ by_least graph.now) }
 {
-    tv_graph::by_least(alloc, graph).map_err(|_error| NoMemory)
+    tv_naming::by_least(alloc, graph).map_err(|_error| NoMemory)
 }
 
 /// The nesting of each flow, where no flow opens itself: 1, or one more than the greatest of the flows that it opens. Takes
@@ -194,10 +193,10 @@ fn too_deep(alloc: Global, flow: &Name, nesting: u32) -> Result<CheckFault, NoMe
     })
 }
 
-/// As that of `tv_graph`.
+/// As that of `tv_naming`.
 fn heights(alloc: Global, graph: &Graph) -> Result<Vec<u32>, NoMemory>
     requires { first_on_cycle graph.now ≡ None }
     ensures { IfOk result (λ hs. hs.items ≡ heights graph.now) }
 {
-    tv_graph::heights(alloc, graph).map_err(|_error| NoMemory)
+    tv_naming::heights(alloc, graph).map_err(|_error| NoMemory)
 }

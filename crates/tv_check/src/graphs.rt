@@ -3,14 +3,13 @@
 ghost use Rattle.std.specs.Prelude.{◌≡◌, ◌<◌, ◌^◌, ◌++◌, ◌∷◌, [], true, map, length, flat_map, filter_map, IfOk, OnOk};
 ghost use Rattle.tv_flow.specs.Formed.{is_ascending};
 ghost use Rattle.tv_flow.specs.Views.{each, link_view, feed_view, activity_view, step_input_view, step_view, flow_view};
-ghost use Rattle.tv_instance.specs.Ranks.{link_step, feed_steps, earlier_steps};
-ghost use Rattle.tv_depths.specs.Cycles.{opened_flow, opened_flows};
+ghost use Rattle.tv_model.specs.instance.Ranks.{link_step, feed_steps, earlier_steps};
+ghost use Rattle.tv_check.specs.Cycles.{opened_flow, opened_flows};
 ghost use Rattle.tv_check.specs.NamedGraphs.{numbers_of, graph_of};
 
 use std::alloc::Global;
 use tv_flow::{Activities, Activity, Feed, Flow, Flows, Link, Links, Step, StepInputs, Steps};
-use tv_graph::Graph;
-use tv_naming::number_of;
+use tv_naming::{Graph, number_of};
 use tv_value::{Name, Names, NoMemory, Sequence};
 
 /// The graph of the steps, each numbered by its position: those that feed a step or that it runs after come before it.

@@ -4,20 +4,19 @@ ghost use Rattle.tv_value.specs.Strategies.{cross, dot};
 ghost use Rattle.tv_value.specs.Views.{strategy_view, strategies_view};
 ghost use Rattle.tv_flow.specs.Formed.{is_flow};
 ghost use Rattle.tv_flow.specs.Views.{each, flow_view, step_view, step_input_view};
-ghost use Rattle.tv_instance.specs.Steps.{strategy_of, ports_of};
-ghost use Rattle.tv_depths.specs.Tables.{IsTable, table_depth, table_mismatch};
+ghost use Rattle.tv_model.specs.instance.Steps.{strategy_of, ports_of};
+ghost use Rattle.tv_check.specs.Tables.{IsTable, table_depth, table_mismatch};
 ghost use Rattle.tv_check.specs.PlanViews.{step_plan_view, IsOfDocument};
 ghost use Rattle.tv_check.specs.FlowPlanViews.{flow_plan_view};
 ghost use Rattle.tv_check.specs.Plans.{flow_plan, step_plan};
-ghost use Rattle.tv_wires.specs.Ports.{ports_of as wired_ports};
+ghost use Rattle.tv_check.specs.Ports.{ports_of as wired_ports};
 ghost use Rattle.tv_check.specs.Planned.{planned, IsPlanned};
 
 use crate::plans::{FlowPlan, StepPlan, StepPlans};
+use crate::{Measured, PortsBySteps, feed_depth, mismatches, wiring_of};
 use std::alloc::Global;
-use tv_depths::{Measured, feed_depth, mismatches};
 use tv_flow::{Flow, Step, StepInputs};
 use tv_value::{Copied, Depths, NoMemory, Sequence, Tree, Trees};
-use tv_wires::{PortsBySteps, wiring_of};
 
 /// The plan of a flow of an accepted document, by what was measured of it and the ranks of its steps. Linear in the flow, with
 /// a look-up for each link.
@@ -58,7 +57,7 @@ fn ports_by_steps(alloc: Global, flow: &Flow, plans: &[StepPlan]) -> Result<Port
     let mut ports = Vec::with_capacity(alloc, steps.len())?;
     for (number, step) in steps.iter().enumerate() {
         let plan = &plans[number];
-        ports.push(tv_wires::ports_of(alloc, flow, &step.1, &plan.tree, &plan.mismatch)?)?;
+        ports.push(crate::ports_of(alloc, flow, &step.1, &plan.tree, &plan.mismatch)?)?;
     }
     Ok(Sequence::of(ports))
 }

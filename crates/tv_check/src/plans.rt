@@ -3,9 +3,9 @@ ghost use Rattle.std.specs.Prelude.{map};
 ghost use Rattle.tv_flow.specs.Views.{flow_view};
 ghost use Rattle.tv_check.specs.PlanViews.{step_plan_view, IsFlowPlan, IsFlowPlan-prop};
 
+use crate::Wiring;
 use tv_flow::Flow;
 use tv_value::{Depths, Sequence, Tree};
-use tv_wires::Wiring;
 
 /// The plans of a document's flows, in the order of the flows.
 pub type FlowPlans = Sequence<FlowPlan>;

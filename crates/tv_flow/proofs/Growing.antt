@@ -10,7 +10,7 @@ use Rattle.tv_value.specs.Values.{Text, Name}
 use Rattle.tv_flow.specs.declared.faults.FormFault.{FormFault}
 use Rattle.tv_flow.specs.declared.faults.FormFault.TheVariants.{Form, NoMemory}
 use Rattle.tv_value.specs.Readings.{item_count}
-use Rattle.tv_value.proofs.OfReading.{item-at}
+use Rattle.tv_value.proofs.ReadingLemmas.{item-at}
 use Rattle.tv_flow.specs.Complaints.{Path, Complaint, key, index, and_then}
 use Rattle.tv_flow.specs.Answers.{fault_result}
 use Rattle.tv_flow.specs.Forms.{name_or_not, entries_form, items_form, member_count}

@@ -1,6 +1,6 @@
-pub mod OfEntries
-pub mod OfElsewhere
-pub mod OfSettled
-pub mod OfStarts
-pub mod OfUntold
-pub mod OfOpened
+pub mod Entries
+pub mod Elsewhere
+pub mod Settled
+pub mod Starts
+pub mod Untold
+pub mod Opened

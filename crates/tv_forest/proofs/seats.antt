@@ -1,6 +1,6 @@
-pub mod OfStages
-pub mod OfLists
-pub mod OfSeats
-pub mod OfEntries
-pub mod OfRuns
-pub mod OfEnds
+pub mod Stages
+pub mod Lists
+pub mod Seats
+pub mod Entries
+pub mod Runs
+pub mod Ends

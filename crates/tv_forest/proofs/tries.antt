@@ -1,7 +1,7 @@
-pub mod OfMade
-pub mod OfJobs
-pub mod OfTurns
-pub mod OfTries
-pub mod OfNext
-pub mod OfParts
-pub mod OfFlows
+pub mod Made
+pub mod Jobs
+pub mod Turns
+pub mod Tries
+pub mod Next
+pub mod Parts
+pub mod Flows

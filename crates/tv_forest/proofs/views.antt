@@ -1,9 +1,9 @@
 pub mod OwnDepths
-pub mod OfSteps
-pub mod OfRuns
-pub mod OfOpened
-pub mod OfJobs
-pub mod OfReady
-pub mod OfEndings
-pub mod OfSettling
-pub mod OfLaws
+pub mod Steps
+pub mod Runs
+pub mod Opened
+pub mod Jobs
+pub mod Ready
+pub mod Endings
+pub mod Settling
+pub mod LawLemmas

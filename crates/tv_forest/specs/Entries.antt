@@ -4,8 +4,8 @@ use Rattle.tv_value.specs.Nested.{Place}
 use Rattle.tv_value.specs.Values.{JobName, Name}
 use Rattle.tv_gate.specs.Outcomes.{Giving}
 use Rattle.tv_flow.specs.Flows.{Document, Flow}
-use Rattle.tv_instance.specs.Steps.{spot}
-use Rattle.tv_instance.specs.Events.{Event, gave, took}
+use Rattle.tv_model.specs.instance.Steps.{spot}
+use Rattle.tv_model.specs.instance.Events.{Event, gave, took}
 use Rattle.tv_model.specs.Jobs.{Job}
 use Rattle.tv_model.specs.Meanings.{meaning}
 use Rattle.tv_history.specs.Entries.{Entry, History, accepted, ended, handed_out, is_ended_entry, is_opened_entry, opened, recalled}

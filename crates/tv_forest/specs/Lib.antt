@@ -6,3 +6,6 @@ pub mod seats
 pub mod stands
 pub mod firsts
 pub mod tries
+pub use Rattle.tv_history.specs.Entries as HistoryEntries
+pub use Rattle.tv_history.specs.Histories
+pub use Rattle.tv_history.specs.order

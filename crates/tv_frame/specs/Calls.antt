@@ -14,9 +14,9 @@ use Rattle.tv_check.specs.declared.plans.FlowPlan.{FlowPlan}
 use Rattle.tv_matching.specs.Matchers.{Outcome, fault_at, job_at, list_at}
 use Rattle.tv_outputs.specs.Known.{Nodes}
 use Rattle.tv_intake.specs.Intaken.{waiting_things}
-use Rattle.tv_instance.specs.ByResults.{InstanceStep, PlacedJob}
-use Rattle.tv_instance.specs.Events as events
-use Rattle.tv_instance.specs.Events.{Event, fault_set, gave, known_by, took}
+use Rattle.tv_model.specs.instance.ByResults.{InstanceStep, PlacedJob}
+use Rattle.tv_model.specs.instance.Events as events
+use Rattle.tv_model.specs.instance.Events.{Event, fault_set, gave, known_by, took}
 use Rattle.tv_model.specs.Agreeing.{FlowAgrees}
 use Rattle.tv_model.specs.RightDepths.{HaveTheseDepths}
 use Rattle.tv_framing.specs.Answers.{IsReadyJob, numbered}

@@ -5,7 +5,7 @@ use Rattle.tv_value.specs.Strategies.{Strategy}
 use Rattle.tv_value.specs.Values.{Value}
 use Rattle.tv_naming.specs.Naming.{numbered}
 use Rattle.tv_matching.specs.Told.{Told}
-use Rattle.tv_wires.specs.declared.ports.Port.{Port}
+use Rattle.tv_check.specs.declared.ports.Port.{Port}
 use Rattle.tv_telling.specs.Openings.{IsFedFrom, numbered_port_start}
 
 -- each port is fed from them

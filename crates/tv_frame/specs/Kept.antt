@@ -6,14 +6,14 @@ use Rattle.tv_value.specs.Nested.{Place}
 use Rattle.tv_value.specs.Values.{Name, Value, holds_fault}
 use Rattle.tv_flow.specs.Flows.{Flow, Step}
 use Rattle.tv_flow.specs.Views.{flow_view}
-use Rattle.tv_instance.specs.Steps.{strategy_of}
+use Rattle.tv_model.specs.instance.Steps.{strategy_of}
 use Rattle.tv_parts.specs.Partials.{Partial}
 use Rattle.tv_pool.specs.Pool.{IsLive}
 use Rattle.tv_cell.specs.declared.piece.Piece.{Piece}
 use Rattle.tv_cell.specs.PieceValues.{piece_values}
 use Rattle.tv_cell.specs.Soundness.{AreSound}
 use Rattle.tv_check.specs.declared.plans.FlowPlan.{FlowPlan}
-use Rattle.tv_wires.specs.Ports.{mismatches}
+use Rattle.tv_check.specs.Ports.{mismatches}
 use Rattle.tv_matching.specs.Matchers.{Outcome}
 use Rattle.tv_match.specs.declared.matchers.Matcher.{Matcher}
 use Rattle.tv_match.specs.Seen.{in_order, matching}

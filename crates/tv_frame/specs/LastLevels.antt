@@ -4,10 +4,10 @@ use Rattle.tv_value.specs.Nested.{at}
 use Rattle.tv_value.specs.Values.{Name}
 use Rattle.tv_flow.specs.Flows.{Step}
 use Rattle.tv_match.specs.declared.kinds.Kind as kinds
-use Rattle.tv_instance.specs.Events.{Event, event_place, known_by}
+use Rattle.tv_model.specs.instance.Events.{Event, event_place, known_by}
 use Rattle.tv_framing.specs.Views.{InAll, View}
 use Rattle.tv_framing.specs.matches.Stated.{OfStep}
-use Rattle.tv_levels.specs.Levels.{FitsThere, IsFromKnown, Level, What, came, closed}
+use Rattle.tv_frame.specs.Levels.{FitsThere, IsFromKnown, Level, What, came, closed}
 
 -- what a matcher says of it
 abbrev pub IsWhat : kinds.Kind → What → Type 0

@@ -9,3 +9,21 @@ pub mod Shown
 pub mod Ready
 pub mod StepPorts
 pub mod LastLevels
+pub mod Starts
+pub mod Stated
+pub mod Levels
+pub mod MainSteps
+pub mod Views
+pub use Rattle.tv_framing.specs.Histories
+pub use Rattle.tv_binding.specs.Delivered
+pub use Rattle.tv_spread.specs.Spreads
+pub use Rattle.tv_framing.specs.Answers
+pub use Rattle.tv_framing.specs.Views as FramingViews
+pub use Rattle.tv_framing.specs.matches
+pub use Rattle.tv_framing.specs.turns
+pub use Rattle.tv_framing.specs.Frames
+pub use Rattle.tv_framing.specs.instances
+pub use Rattle.tv_framing.specs.Stated as FramingStated
+pub use Rattle.tv_framing.specs.engine
+pub use Rattle.tv_framing.specs.Arriving
+pub use Rattle.tv_framing.specs.faults

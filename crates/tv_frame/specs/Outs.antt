@@ -4,7 +4,7 @@ use Rattle.tv_value.specs.Values.{Name}
 use Rattle.tv_flow.specs.Flows.{Step}
 use Rattle.tv_binding.specs.declared.over.Brought.{Brought}
 use Rattle.tv_binding.specs.declared.over.Brought.TheVariants.{Arrived, Closed}
-use Rattle.tv_instance.specs.Counting.{whole_by}
+use Rattle.tv_model.specs.instance.Counting.{whole_by}
 use Rattle.tv_framing.specs.Views.{View}
 use Rattle.tv_framing.specs.matches.Steps.{IsStepAt}
 use Rattle.tv_frame.specs.declared.outs.Change.{Change}

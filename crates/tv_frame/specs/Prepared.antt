@@ -7,8 +7,8 @@ use Rattle.tv_value.specs.Nested.{list, no_trees}
 use Rattle.tv_value.specs.Values.{Name, Value, fault_value}
 use Rattle.tv_flow.specs.Flows.{Flow, Step}
 use Rattle.tv_naming.specs.Naming.{has_name}
-use Rattle.tv_instance.specs.Steps.{declared_depths}
-use Rattle.tv_wires.specs.Feeds.{outputs_of}
+use Rattle.tv_model.specs.instance.Steps.{declared_depths}
+use Rattle.tv_check.specs.Feeds.{outputs_of}
 use Rattle.tv_cell.specs.PieceValues.{piece_values}
 use Rattle.tv_cell.specs.Soundness.{AreSound}
 use Rattle.tv_check.specs.declared.plans.FlowPlan.{FlowPlan}
@@ -21,8 +21,8 @@ use Rattle.tv_outputs.specs.Changes.{AreMarked}
 use Rattle.tv_outputs.specs.Known.{Nodes, depths, needed}
 use Rattle.tv_intake.specs.Intaken.{matcher_at}
 use Rattle.tv_spread.specs.Spreads.{CanShowAll}
-use Rattle.tv_instance.specs.Events as events
-use Rattle.tv_instance.specs.Events.{Event, event_place, event_step, fault_set, gave, has_result, took}
+use Rattle.tv_model.specs.instance.Events as events
+use Rattle.tv_model.specs.instance.Events.{Event, event_place, event_step, fault_set, gave, has_result, took}
 use Rattle.tv_model.specs.RightDepths.{HaveTheseDepths}
 use Rattle.tv_framing.specs.Answers.{has_ended_now}
 use Rattle.tv_framing.specs.Arriving.{levels_below}

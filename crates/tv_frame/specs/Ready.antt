@@ -3,7 +3,7 @@ use Rattle.std.specs.Prelude.{◌≡◌, ℕ, Bool, true, false, Option, Some, N
 use Rattle.tv_value.specs.Nested.{Place}
 use Rattle.tv_value.specs.Values.{Name}
 use Rattle.tv_flow.specs.Flows.{Step}
-use Rattle.tv_instance.specs.Events.{has_result, is_taken}
+use Rattle.tv_model.specs.instance.Events.{has_result, is_taken}
 use Rattle.tv_framing.specs.Answers.{IsReadyJob, numbered}
 use Rattle.tv_framing.specs.Views.{View}
 use Rattle.tv_framing.specs.matches.Steps.{IsStepAt}

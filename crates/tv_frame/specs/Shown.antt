@@ -3,13 +3,13 @@ use Rattle.std.specs.Prelude.{◌≡◌, ℕ, ◌<◌, ◌++◌, Bool, true, fal
 use Rattle.tv_value.specs.Nested.{list, no_trees}
 use Rattle.tv_value.specs.Values.{Value}
 use Rattle.tv_cell.specs.declared.piece.Piece.{Piece}
-use Rattle.tv_wires.specs.declared.wiring.Wiring.{Wiring}
-use Rattle.tv_endings.specs.declared.endings.Endings.{Endings}
-use Rattle.tv_endings.specs.Ends.{AreTurned, IsSound, is_whole}
+use Rattle.tv_check.specs.declared.wiring.Wiring.{Wiring}
+use Rattle.tv_telling.specs.declared.endings.endings.Endings.{Endings}
+use Rattle.tv_telling.specs.endings.Ends.{AreTurned, IsSound, is_whole}
 use Rattle.tv_intake.specs.Intaken.{AreIntaken, known_jobs, waiting_things}
 use Rattle.tv_spread.specs.Spreads.{MakeAll, binds_fault, new_jobs, new_things, with_all_new}
-use Rattle.tv_instance.specs.Events as events
-use Rattle.tv_instance.specs.Events.{Event, fault_set, gave, is_taken, took}
+use Rattle.tv_model.specs.instance.Events as events
+use Rattle.tv_model.specs.instance.Events.{Event, fault_set, gave, is_taken, took}
 use Rattle.tv_framing.specs.Views.{View}
 use Rattle.tv_frame.specs.declared.frame.Frame.{Frame}
 

@@ -10,8 +10,8 @@ use Rattle.tv_cell.specs.declared.piece.Piece.{Piece}
 use Rattle.tv_cell.specs.PieceValues.{piece_values}
 use Rattle.tv_cell.specs.Soundness.{AreSound}
 use Rattle.tv_check.specs.declared.plans.FlowPlan.{FlowPlan}
-use Rattle.tv_instance.specs.Steps.{strategy_of}
-use Rattle.tv_wires.specs.Ports.{mismatches}
+use Rattle.tv_model.specs.instance.Steps.{strategy_of}
+use Rattle.tv_check.specs.Ports.{mismatches}
 use Rattle.tv_matching.specs.Matchers.{Matching}
 use Rattle.tv_matching.specs.Told.{Told}
 use Rattle.tv_match.specs.declared.matchers.Matcher.{Matcher}
@@ -29,7 +29,7 @@ use Rattle.tv_framing.specs.turns.IdleJobs.{IsIdle}
 use Rattle.tv_framing.specs.starts.Starts.{step_start}
 use Rattle.tv_frame.specs.declared.frame.Frame.{Frame}
 use Rattle.tv_frame.specs.Tables.{AreTables, levels_in}
-use Rattle.tv_depths.specs.Tables.{step_level}
+use Rattle.tv_check.specs.Tables.{step_level}
 
 -- the flow's inputs with these values
 abbrev pub named_values : List (Name × ℕ) → List Value → List (Name × Value)

@@ -6,13 +6,13 @@ use Rattle.tv_value.specs.Orders.{named}
 use Rattle.tv_value.specs.Values.{Name}
 use Rattle.tv_flow.specs.Flows.{Flow, Step}
 use Rattle.tv_strategy.specs.Conditions.{number_of}
-use Rattle.tv_instance.specs.Steps.{strategy_of}
-use Rattle.tv_depths.specs.Tables.{step_level}
-use Rattle.tv_wires.specs.Ports.{mismatches}
-use Rattle.tv_wires.specs.Wirings.{wires_by_step}
+use Rattle.tv_model.specs.instance.Steps.{strategy_of}
+use Rattle.tv_check.specs.Tables.{step_level}
+use Rattle.tv_check.specs.Ports.{mismatches}
+use Rattle.tv_check.specs.Wirings.{wires_by_step}
 use Rattle.tv_telling.specs.Along.{is_walked}
 use Rattle.tv_binding.specs.Constants.{constants_view, flow_constants}
-use Rattle.tv_starts.specs.Starts.{starts}
+use Rattle.tv_frame.specs.Starts.{starts}
 use Rattle.tv_framing.specs.turns.FirstReady.{by_falling_rank}
 use Rattle.tv_frame.specs.declared.tables.Tables.{Tables}
 

@@ -3,7 +3,7 @@ ghost use Rattle.std.specs.Prelude.{◌≡◌, ◌≤◌, ℕ, List, length, tru
 ghost use Rattle.tv_value.specs.Values.{Name};
 ghost use Rattle.tv_flow.specs.Flows.{Flow, Step};
 ghost use Rattle.tv_pool.specs.Pool.{IsLive, number_of};
-ghost use Rattle.tv_nodes.specs.Calls.{KeepsRegions};
+ghost use Rattle.tv_stream.specs.nodes.Calls.{KeepsRegions};
 ghost use Rattle.tv_cell.specs.PieceValues.{piece_values};
 ghost use Rattle.tv_cell.specs.Soundness.{AreSound};
 ghost use Rattle.tv_outputs.specs.Known.{depths, known, needed};
@@ -11,7 +11,7 @@ ghost use Rattle.tv_outputs.specs.Kept.{Stand};
 ghost use Rattle.tv_outputs.specs.Changes.{AllCanArrive, AreMarked, Arrive};
 ghost use Rattle.tv_intake.specs.Intaken.{AreIntaken};
 ghost use Rattle.tv_spread.specs.Spreads.{CanShowAll};
-ghost use Rattle.tv_instance.specs.Events.{Event as TheEvent, gave, is_taken};
+ghost use Rattle.tv_model.specs.instance.Events.{Event as TheEvent, gave, is_taken};
 ghost use Rattle.tv_framing.specs.Views.{View};
 ghost use Rattle.tv_frame.specs.Prepared.{IsReadyFor};
 ghost use Rattle.tv_frame.specs.Shown.{CanTurnWhole, HasOtherEndings, HasOtherOuts, HasOtherTrees, IsMarked, IsShown, outs_after, values_put};

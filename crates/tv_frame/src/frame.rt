@@ -6,7 +6,7 @@ ghost use Rattle.tv_flow.specs.Views.{flow_view};
 ghost use Rattle.tv_parts.specs.Partials.{wanting};
 ghost use Rattle.tv_pool.specs.declared.handles.Region.{Region as TheRegion};
 ghost use Rattle.tv_pool.specs.Pool.{IsLive, number_of, region_at, regions_with};
-ghost use Rattle.tv_nodes.specs.Calls.{KeepsRegions, count_in};
+ghost use Rattle.tv_stream.specs.nodes.Calls.{KeepsRegions, count_in};
 ghost use Rattle.tv_cell.specs.PieceValues.{piece_value, piece_values};
 ghost use Rattle.tv_cell.specs.Soundness.{AreSound};
 ghost use Rattle.tv_check.specs.declared.plans.FlowPlan.{FlowPlan as ThePlan};
@@ -27,13 +27,13 @@ use std::mem;
 use tv_binding::{Sources, flow_outputs};
 use tv_cell::{Piece, Pieces, Row};
 use tv_check::FlowPlan;
-use tv_endings::Endings;
 use tv_idle::Idle;
 use tv_intake::Intakes;
 use tv_match::Tolds;
 use tv_outputs::{Faults, Nodes, Outputs};
 use tv_pool::Region;
 use tv_spread::Spread;
+use tv_telling::Endings;
 use tv_value::{NoMemory, Place};
 
 /// One open instance of a flow.

@@ -3,7 +3,7 @@ ghost use Rattle.std.specs.Prelude.{◌≡◌, false, true, ◌<◌, ◌≤◌, 
 ghost use Rattle.tv_value.specs.Values.{Name, Value as AValue};
 ghost use Rattle.tv_value.specs.Views.{values_view, view};
 ghost use Rattle.tv_flow.specs.Flows.{Flow, Step};
-ghost use Rattle.tv_instance.specs.Ranks.{ranked};
+ghost use Rattle.tv_model.specs.instance.Ranks.{ranked};
 ghost use Rattle.tv_cell.specs.PieceValues.{piece_values};
 ghost use Rattle.tv_cell.specs.Soundness.{AreSound};
 ghost use Rattle.tv_value.specs.Nested.{Place};
@@ -11,15 +11,15 @@ ghost use Rattle.tv_check.specs.declared.plans.FlowPlan.{FlowPlan};
 ghost use Rattle.tv_outputs.specs.Known.{Nodes};
 ghost use Rattle.tv_intake.specs.Intaken.{known_jobs};
 ghost use Rattle.tv_spread.specs.Spreads.{is_faulty_now};
-ghost use Rattle.tv_instance.specs.ByResults.{last_first};
-ghost use Rattle.tv_instance.specs.Counting.{have_ended_by};
-ghost use Rattle.tv_instance.specs.Events.{Event as TheEvent, took};
+ghost use Rattle.tv_model.specs.instance.ByResults.{last_first};
+ghost use Rattle.tv_model.specs.instance.Counting.{have_ended_by};
+ghost use Rattle.tv_model.specs.instance.Events.{Event as TheEvent, took};
 ghost use Rattle.tv_framing.specs.Answers.{AreInputs, IsReadyJob, after_of, numbered};
 ghost use Rattle.tv_framing.specs.Frames.{with_event};
 ghost use Rattle.tv_framing.specs.Views.{View};
 ghost use Rattle.tv_framing.specs.matches.Steps.{IsStepAt};
 ghost use Rattle.tv_framing.specs.turns.FirstReady.{IsFirstReady};
-ghost use Rattle.tv_endings.specs.Turns.{first_in_turn, may_settle};
+ghost use Rattle.tv_telling.specs.endings.Turns.{first_in_turn, may_settle};
 ghost use Rattle.tv_frame.specs.Calls.{HoldsError, IsJob};
 ghost use Rattle.tv_frame.specs.Kept.{Keeps, named_job};
 ghost use Rattle.tv_frame.specs.Prepared.{IsReadyFor};
@@ -32,8 +32,8 @@ use std::alloc::Global;
 use tv_binding::{StepPorts, job_binds, job_inputs, job_values};
 use tv_cell::Pieces;
 use tv_check::FlowPlan;
-use tv_endings::first_ready;
 use tv_outputs::Nodes;
+use tv_telling::first_ready;
 use tv_value::{Items, NoMemory, Value};
 
 /// A known job of an instance.

@@ -4,16 +4,16 @@ ghost use Rattle.tv_value.specs.Values.{Name};
 ghost use Rattle.tv_flow.specs.Flows.{Flow, Step};
 ghost use Rattle.tv_check.specs.declared.plans.FlowPlan.{FlowPlan};
 ghost use Rattle.tv_outputs.specs.Known.{Nodes};
-ghost use Rattle.tv_instance.specs.Events.{Event};
+ghost use Rattle.tv_model.specs.instance.Events.{Event};
 ghost use Rattle.tv_framing.specs.Views.{View};
-ghost use Rattle.tv_levels.specs.Views.{level_view, what_view};
+ghost use Rattle.tv_frame.specs.Views.{level_view, what_view};
 ghost use Rattle.tv_frame.specs.Calls.{IsReadyToSettle};
 ghost use Rattle.tv_frame.specs.LastLevels.{IsLevelOf, IsListOrFault, IsWhat};
 
 use crate::frame::Frame;
-use tv_levels::{Level, What};
+use crate::{Level, What};
+use tv_cell::Path;
 use tv_match::Kind;
-use tv_path::Path;
 use tv_value::NoMemory;
 
 impl Frame {

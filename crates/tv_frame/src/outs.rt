@@ -4,7 +4,7 @@ ghost use Rattle.tv_value.specs.Values.{Name};
 ghost use Rattle.tv_flow.specs.Flows.{Flow, Step};
 ghost use Rattle.tv_cell.specs.PieceValues.{piece_values};
 ghost use Rattle.tv_cell.specs.Soundness.{AreSound};
-ghost use Rattle.tv_instance.specs.Events.{Event as TheEvent};
+ghost use Rattle.tv_model.specs.instance.Events.{Event as TheEvent};
 ghost use Rattle.tv_framing.specs.Answers.{AreOutputs};
 ghost use Rattle.tv_framing.specs.Frames.{with_event};
 ghost use Rattle.tv_framing.specs.Views.{View};

@@ -7,7 +7,7 @@ ghost use Rattle.tv_flow.specs.Flows.{Flow, Step};
 ghost use Rattle.tv_flow.specs.Views.{flow_view};
 ghost use Rattle.tv_strategy.specs.Conditions.{Suits, number_of};
 ghost use Rattle.tv_strategy.specs.Measures.{DotsAgree, leaf_names, strategy_depth};
-ghost use Rattle.tv_instance.specs.Steps.{strategy_of};
+ghost use Rattle.tv_model.specs.instance.Steps.{strategy_of};
 ghost use Rattle.tv_check.specs.Plans.{step_plan};
 ghost use Rattle.tv_check.specs.PlanViews.{step_plan_view};
 ghost use Rattle.tv_cell.specs.PieceValues.{piece_values};
@@ -27,14 +27,13 @@ use crate::tables::Tables;
 use std::alloc::Global;
 use tv_binding::Constants;
 use tv_cell::Piece;
-use tv_check::{FlowPlan, StepPlan};
+use tv_check::{FlowPlan, NumberedFeed, NumberedLink, Port, StepPlan};
 use tv_idle::Idle;
 use tv_intake::Intakes;
 use tv_match::Tolds;
 use tv_spread::add_known;
 use tv_telling::port_start;
 use tv_value::NoMemory;
-use tv_wires::{NumberedFeed, NumberedLink, Port};
 
 /// Adds a matcher for each step, tells it what is known of inputs, each of which is said to hold a fault or none, and of constants,
 /// and takes in the jobs that are known with that. What was told before goes, and its memory is room for what is told, which is

@@ -4,20 +4,19 @@ ghost use Rattle.std.specs.List.{range_with_len};
 ghost use Rattle.tv_value.specs.Values.{Name};
 ghost use Rattle.tv_flow.specs.Flows.{Step};
 ghost use Rattle.tv_flow.specs.Views.{flow_view};
-ghost use Rattle.tv_wires.specs.Wirings.{wires_by_step};
+ghost use Rattle.tv_check.specs.Wirings.{wires_by_step};
 ghost use Rattle.tv_telling.specs.Along.{is_walked};
 ghost use Rattle.tv_framing.specs.turns.FirstReady.{by_falling_rank};
 ghost use Rattle.tv_frame.specs.Tables.{AreTables, first_tree, levels_in, step_starts, tree_depths, trees_of};
 
+use crate::leaf_starts;
 use std::alloc::Global;
 use std::marker::Model;
 use std::sync::Arc;
 use tv_binding::Constants;
-use tv_check::FlowPlan;
+use tv_check::{FlowPlan, Wire};
 use tv_spread::walked_wires;
-use tv_starts::leaf_starts;
 use tv_value::NoMemory;
-use tv_wires::Wire;
 
 /// What a frame looks up of its flow by numbers.
 #[derive(Drop)]

@@ -1,1 +1,1 @@
-pub mod OfLaws
+pub mod LawLemmas

@@ -1,6 +1,6 @@
-pub mod OfTurns
-pub mod OfRanks
-pub mod OfSettling
-pub mod OfFrames
-pub mod OfChanges
-pub mod OfOrders
+pub mod Turns
+pub mod Ranks
+pub mod Settling
+pub mod Frames
+pub mod Changes
+pub mod Orders

@@ -1,2 +1,2 @@
-pub mod OfWays
-pub mod OfLengths
+pub mod Ways
+pub mod Lengths

@@ -6,13 +6,13 @@ use Rattle.tv_value.specs.Orders.{same_name}
 use Rattle.tv_value.specs.Values.{Name, Value}
 use Rattle.tv_flow.specs.Flows.{Step}
 use Rattle.tv_strategy.specs.Origins.{plain}
-use Rattle.tv_instance.specs.Delivered.{feed_delivers}
-use Rattle.tv_instance.specs.Ranks.{ranked}
-use Rattle.tv_instance.specs.ByResults.{InstanceStep, PlacedJob, last_first, step_of}
-use Rattle.tv_instance.specs.Counting.{have_ended_by}
-use Rattle.tv_instance.specs.Events as events
-use Rattle.tv_instance.specs.Events.{Event, fault_set, gave, has_result, is_taken, took}
-use Rattle.tv_instance.specs.Legality.{IsLegalNext}
+use Rattle.tv_model.specs.instance.Delivered.{feed_delivers}
+use Rattle.tv_model.specs.instance.Ranks.{ranked}
+use Rattle.tv_model.specs.instance.ByResults.{InstanceStep, PlacedJob, last_first, step_of}
+use Rattle.tv_model.specs.instance.Counting.{have_ended_by}
+use Rattle.tv_model.specs.instance.Events as events
+use Rattle.tv_model.specs.instance.Events.{Event, fault_set, gave, has_result, is_taken, took}
+use Rattle.tv_model.specs.instance.Legality.{IsLegalNext}
 use Rattle.tv_model.specs.Instances.{given_of}
 use Rattle.tv_framing.specs.Views.{InAll, View}
 

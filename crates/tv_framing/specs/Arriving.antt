@@ -5,8 +5,8 @@ use Rattle.tv_value.specs.Orders.{same_name}
 use Rattle.tv_value.specs.Values.{Name, Value, fault_value}
 use Rattle.tv_parts.specs.Changes.{arrive, close_at}
 use Rattle.tv_parts.specs.Partials.{Partial, wanting}
-use Rattle.tv_instance.specs.Events as events
-use Rattle.tv_instance.specs.Events.{Event, Events, fault_set, gave, took}
+use Rattle.tv_model.specs.instance.Events as events
+use Rattle.tv_model.specs.instance.Events.{Event, Events, fault_set, gave, took}
 
 -- so many levels are left below this place
 abbrev pub levels_below : ℕ → Place → ℕ

@@ -8,13 +8,13 @@ use Rattle.tv_flow.specs.Flows.{Feed, Link, constant, input, link, merge, output
 use Rattle.tv_strategy.specs.Levels.{HasLevels}
 use Rattle.tv_strategy.specs.Origins.{Origin, Traced}
 use Rattle.tv_strategy.specs.Sources.{AtNodes}
-use Rattle.tv_instance.specs.Delivered.{Delivered, merged}
+use Rattle.tv_model.specs.instance.Delivered.{Delivered, merged}
 use Rattle.tv_matching.specs.Items.{all_known}
-use Rattle.tv_instance.specs.ByResults.{InstanceStep, Results, result_at}
-use Rattle.tv_instance.specs.Events as events
-use Rattle.tv_instance.specs.Events.{Event, Events, event_place, event_step, fault_set, gave, known_by, took}
-use Rattle.tv_instance.specs.Fitting.{FitStep}
-use Rattle.tv_instance.specs.Wholeness.{is_new}
+use Rattle.tv_model.specs.instance.ByResults.{InstanceStep, Results, result_at}
+use Rattle.tv_model.specs.instance.Events as events
+use Rattle.tv_model.specs.instance.Events.{Event, Events, event_place, event_step, fault_set, gave, known_by, took}
+use Rattle.tv_model.specs.instance.Fitting.{FitStep}
+use Rattle.tv_model.specs.instance.Wholeness.{is_new}
 use Rattle.tv_framing.specs.instances.InHistory.{Finds}
 use Rattle.tv_framing.specs.Arriving.{levels_below}
 use Rattle.tv_framing.specs.Gaining.{IsOutputOf}

@@ -3,12 +3,12 @@ use Rattle.std.specs.Prelude.{◌≡◌, ℕ, Bool, List, [], ◌∷◌, ◌++�
 use Rattle.tv_value.specs.Nested.{Place}
 use Rattle.tv_value.specs.Values.{Name}
 use Rattle.tv_strategy.specs.Origins.{Origin}
-use Rattle.tv_instance.specs.Ranks.{ranked}
+use Rattle.tv_model.specs.instance.Ranks.{ranked}
 use Rattle.tv_matching.specs.Items.{Bound, Item, Kind, Stopped, closes, ends, known_items, passes}
-use Rattle.tv_instance.specs.ByResults.{InstanceStep}
-use Rattle.tv_instance.specs.Events as events
-use Rattle.tv_instance.specs.Events.{Event, fault_set, gave, known_by, took}
-use Rattle.tv_instance.specs.Legality.{AreLegal}
+use Rattle.tv_model.specs.instance.ByResults.{InstanceStep}
+use Rattle.tv_model.specs.instance.Events as events
+use Rattle.tv_model.specs.instance.Events.{Event, fault_set, gave, known_by, took}
+use Rattle.tv_model.specs.instance.Legality.{AreLegal}
 use Rattle.tv_framing.specs.Gaining.{gained_items}
 use Rattle.tv_framing.specs.Views.{AreGiven, InAll, View}
 

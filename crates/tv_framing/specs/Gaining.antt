@@ -9,11 +9,11 @@ use Rattle.tv_flow.specs.Flows.{Feed, Link, constant, input, link, merge, output
 use Rattle.tv_strategy.specs.Iterations.{Iteration, Iterations, job, passed, walk}
 use Rattle.tv_strategy.specs.Origins.{Origin, from_job, traced}
 use Rattle.tv_strategy.specs.Outputs.{output_below}
-use Rattle.tv_instance.specs.Delivered.{Delivered}
-use Rattle.tv_instance.specs.Steps.{spot}
+use Rattle.tv_model.specs.instance.Delivered.{Delivered}
+use Rattle.tv_model.specs.instance.Steps.{spot}
 use Rattle.tv_matching.specs.Items.{Bound, Item, Stopped, all_known, closes, end_kind, ends, here, if_so, known_items, passes, within}
-use Rattle.tv_instance.specs.ByResults.{InstanceStep, Results, result_at}
-use Rattle.tv_instance.specs.Wholeness.{is_new, is_whole}
+use Rattle.tv_model.specs.instance.ByResults.{InstanceStep, Results, result_at}
+use Rattle.tv_model.specs.instance.Wholeness.{is_new, is_whole}
 
 -- all items, as of a value that becomes known at once
 abbrev pub all_items : Iteration → List (Item Bound Stopped)

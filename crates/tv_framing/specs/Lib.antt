@@ -17,3 +17,4 @@ pub mod feeds
 pub mod matches
 pub mod faults
 pub mod turns
+pub use Rattle.tv_history.specs.Histories

@@ -7,11 +7,11 @@ use Rattle.tv_flow.specs.Flows.{Feed, Link, constant, input, link, merge, output
 use Rattle.tv_strategy.specs.Origins.{Traced}
 use Rattle.tv_matching.specs.Items.{Bound, Item, Stopped, if_so, item}
 use Rattle.tv_matching.specs.Told.{Told, arrival, close, item_there, told_kind, told_place}
-use Rattle.tv_instance.specs.Events as events
+use Rattle.tv_model.specs.instance.Events as events
 use Rattle.tv_framing.specs.Arriving.{levels_below}
-use Rattle.tv_instance.specs.Counting.{whole_by}
-use Rattle.tv_instance.specs.Events.{Event, Events, event_place, event_step, fault_set, gave, took}
-use Rattle.tv_instance.specs.Wholeness.{is_new}
+use Rattle.tv_model.specs.instance.Counting.{whole_by}
+use Rattle.tv_model.specs.instance.Events.{Event, Events, event_place, event_step, fault_set, gave, took}
+use Rattle.tv_model.specs.instance.Wholeness.{is_new}
 
 -- all that port p walks k levels of, from place q on: a value that a job gave, an input or a constant
 abbrev mutual

@@ -12,21 +12,21 @@ use Rattle.tv_strategy.specs.Measures.{DotsAgree}
 use Rattle.tv_strategy.specs.Origins.{Origin, Traced, fixed, plain}
 use Rattle.tv_strategy.specs.Outputs.{output_below}
 use Rattle.tv_strategy.specs.Sources.{AtNodes}
-use Rattle.tv_instance.specs.Delivered.{Delivered, feed_delivers, wrapped}
-use Rattle.tv_instance.specs.Ranks.{ranked}
-use Rattle.tv_instance.specs.Steps.{port_iteration, port_mismatch, spot, strategy_of}
+use Rattle.tv_model.specs.instance.Delivered.{Delivered, feed_delivers, wrapped}
+use Rattle.tv_model.specs.instance.Ranks.{ranked}
+use Rattle.tv_model.specs.instance.Steps.{port_iteration, port_mismatch, spot, strategy_of}
 use Rattle.tv_parts.specs.Below.{Below}
 use Rattle.tv_matching.specs.Items.{Bound, Item, Stopped, known_items}
 use Rattle.tv_matching.specs.Matched.{matched}
-use Rattle.tv_instance.specs.ByResults.{InstanceStep, Results, last_first, step_by, step_of, steps_by}
-use Rattle.tv_instance.specs.Counting.{have_ended_by, whole_by}
-use Rattle.tv_instance.specs.Endings.{has_ended, have_ended}
-use Rattle.tv_instance.specs.Events.{Event, Events, Extends, event_place, event_step, gave, has_result, is_telling, known_by, took}
-use Rattle.tv_instance.specs.Fitting.{FitStep}
-use Rattle.tv_instance.specs.Legality.{IsFresh, IsLegalNext}
-use Rattle.tv_instance.specs.OneEvent.{Rises}
-use Rattle.tv_instance.specs.OwnDepths.{AreLevels}
-use Rattle.tv_instance.specs.Wholeness.{is_whole, origin_at}
+use Rattle.tv_model.specs.instance.ByResults.{InstanceStep, Results, last_first, step_by, step_of, steps_by}
+use Rattle.tv_model.specs.instance.Counting.{have_ended_by, whole_by}
+use Rattle.tv_model.specs.instance.Endings.{has_ended, have_ended}
+use Rattle.tv_model.specs.instance.Events.{Event, Events, Extends, event_place, event_step, gave, has_result, is_telling, known_by, took}
+use Rattle.tv_model.specs.instance.Fitting.{FitStep}
+use Rattle.tv_model.specs.instance.Legality.{IsFresh, IsLegalNext}
+use Rattle.tv_model.specs.instance.OneEvent.{Rises}
+use Rattle.tv_model.specs.instance.OwnDepths.{AreLevels}
+use Rattle.tv_model.specs.instance.Wholeness.{is_whole, origin_at}
 use Rattle.tv_framing.specs.instances.InHistory.{Finds}
 use Rattle.tv_model.specs.Agreeing.{FlowAgrees, InputsHave}
 use Rattle.tv_framing.specs.Answers.{has_ended_now}

@@ -5,12 +5,12 @@ use Rattle.tv_lemmas.specs.Members.{In}
 use Rattle.tv_value.specs.Nested.{Place}
 use Rattle.tv_value.specs.Values.{JobName, Name, Value}
 use Rattle.tv_flow.specs.Flows.{Flow, Step}
-use Rattle.tv_instance.specs.Ranks.{ranked}
-use Rattle.tv_instance.specs.Steps.{declared_depths}
-use Rattle.tv_instance.specs.ByResults.{InstanceStep, Results, steps_by}
-use Rattle.tv_instance.specs.Events as events
-use Rattle.tv_instance.specs.Events.{Events, Extends, fault_set, gave, has_result, took}
-use Rattle.tv_instance.specs.OwnDepths.{AllJobsGive}
+use Rattle.tv_model.specs.instance.Ranks.{ranked}
+use Rattle.tv_model.specs.instance.Steps.{declared_depths}
+use Rattle.tv_model.specs.instance.ByResults.{InstanceStep, Results, steps_by}
+use Rattle.tv_model.specs.instance.Events as events
+use Rattle.tv_model.specs.instance.Events.{Events, Extends, fault_set, gave, has_result, took}
+use Rattle.tv_model.specs.instance.OwnDepths.{AllJobsGive}
 use Rattle.tv_model.specs.Instances.{given_of}
 use Rattle.tv_model.specs.RightDepths.{HaveTheseDepths}
 

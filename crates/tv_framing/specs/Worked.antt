@@ -1,12 +1,12 @@
--- Worked examples: what the events of `tv_instance`'s example tell, as partial trees, as tellings of ports and as jobs. They compute.
+-- Worked examples: what the events of `tv_model`'s example tell, as partial trees, as tellings of ports and as jobs. They compute.
 use Rattle.std.specs.Prelude.{◌≡◌, true, false, [], ◌∷◌, codes}
 use Rattle.tv_value.specs.Values.{Name, Value, text_value}
 use Rattle.tv_flow.specs.Flows.{link, merge, output}
 use Rattle.tv_parts.specs.Partials.{closed, growing, item, no_parts, part, wanting}
 use Rattle.tv_matching.specs.Told.{arrival, close}
-use Rattle.tv_instance.specs.Events as events
-use Rattle.tv_instance.specs.Events.{gave, known_by}
-use Rattle.tv_instance.specs.Worked.{both, last_one, o, so_far, u, v}
+use Rattle.tv_model.specs.instance.Events as events
+use Rattle.tv_model.specs.instance.Events.{gave, known_by}
+use Rattle.tv_model.specs.instance.Worked.{both, last_one, o, so_far, u, v}
 use Rattle.tv_framing.specs.Arriving.{part_so_far}
 use Rattle.tv_framing.specs.Frames.{known_jobs, new_jobs}
 use Rattle.tv_framing.specs.PortTellings.{newly_by, port_told}

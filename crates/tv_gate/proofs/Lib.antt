@@ -1,1 +1,1 @@
-pub mod OfGiven
+pub mod Given

@@ -8,7 +8,7 @@ use Rattle.std.proofs.lemmas.Bool.{and_from}
 use Rattle.tv_value.specs.Values.{Value}
 use Rattle.tv_value.specs.Orders.{same_name}
 use Rattle.tv_value.specs.Sameness.{same_values}
-use Rattle.tv_value.proofs.OfSameness.{test-decides}
+use Rattle.tv_value.proofs.Sameness.{test-decides}
 use Rattle.tv_gate.specs.Calls as spec
 use Rattle.tv_gate.specs.Sameness.{same_call}
 use Rattle.tv_gate.specs.Views.{call_view}

@@ -1,3 +1,3 @@
-pub mod OfForm
-pub mod OfTexts
+pub mod Form
+pub mod TextLemmas
 pub mod Computed

@@ -6,12 +6,12 @@ use Rattle.std.proofs.lemmas.List.{length-map}
 use Rattle.std.proofs.lemmas.Bool.{not-true}
 use Rattle.std.specs.Cmp.{first_so, second_so}
 use Rattle.tv_lemmas.specs.Members.{In}
-use Rattle.tv_lemmas.proofs.OfMembers.{some_in}
+use Rattle.tv_lemmas.proofs.Members.{some_in}
 use Rattle.tv_history.proofs.Legal.{last-legal, legal-of, Legal, hands, accepts, bounces, closes, passes, opens, ends}
 use Rattle.tv_lemmas.proofs.Cases.{on_either, on_or}
 use Rattle.tv_value.specs.Values.{Name, JobName}
 use Rattle.tv_value.specs.Orders.{same_job}
-use Rattle.tv_value.proofs.OfJobNames.{same_job_decides}
+use Rattle.tv_value.proofs.JobNameLemmas.{same_job_decides}
 use Rattle.tv_flow.specs.Flows.{Document}
 use Rattle.tv_gate.specs.Outcomes.{Giving}
 use Rattle.tv_model.specs.Jobs.{Job}

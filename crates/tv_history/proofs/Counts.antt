@@ -7,7 +7,7 @@ use Rattle.tv_lemmas.specs.Members.{In}
 use Rattle.tv_lemmas.proofs.Counts.{count-cons}
 use Rattle.tv_value.specs.Values.{JobName}
 use Rattle.tv_value.specs.Orders.{same_job}
-use Rattle.tv_value.proofs.OfJobNames.{same_job_decides}
+use Rattle.tv_value.proofs.JobNameLemmas.{same_job_decides}
 use Rattle.tv_history.specs.Entries.{Entry, History}
 use Rattle.tv_model.proofs.Tests.{true≠false}
 use Rattle.tv_model.specs.JobOrder.{Apart}

@@ -7,13 +7,13 @@ use Rattle.std.proofs.Common.{sym, ap, subst, ◌∙◌, inl, inr, append_assoc,
 use Rattle.std.proofs.lemmas.Bool.{false_from_ne_true, true_from_ne_false, not-true, or_cases}
 use Rattle.std.specs.Cmp.{first_so, second_so}
 use Rattle.tv_lemmas.specs.Members.{Each, In}
-use Rattle.tv_lemmas.proofs.OfMembers.{any-in, each_in, in-append, in-flat, in-left, in-map, in-right, of-all, of-flat, of-map, some_in}
+use Rattle.tv_lemmas.proofs.Members.{any-in, each_in, in-append, in-flat, in-left, in-map, in-right, of-all, of-flat, of-map, some_in}
 use Rattle.tv_history.proofs.Legal.{legal-of}
 use Rattle.tv_lemmas.proofs.Cases.{on_test, on_either}
 use Rattle.tv_lemmas.proofs.Lists.{all-weaken}
 use Rattle.tv_value.specs.Values.{JobName}
 use Rattle.tv_value.specs.Orders.{same_job}
-use Rattle.tv_value.proofs.OfJobNames.{same_job_decides}
+use Rattle.tv_value.proofs.JobNameLemmas.{same_job_decides}
 use Rattle.tv_gate.specs.Outcomes.{Giving}
 use Rattle.tv_dispatch.specs.Jobs.{Ask}
 use Rattle.tv_model.specs.Jobs.{Job, job_needs}
@@ -31,7 +31,7 @@ use Rattle.tv_history.proofs.Running.{settled_of_name, idle_begun, going_on, rea
 use Rattle.tv_model.proofs.Members.{once-of_apart}
 use Rattle.tv_model.specs.JobOrder.{Apart}
 use Rattle.tv_model.proofs.Whole.{IsWhole}
-use Rattle.tv_lemmas.proofs.OfMembers.{of-filter as passing-in}
+use Rattle.tv_lemmas.proofs.Members.{of-filter as passing-in}
 use Rattle.tv_history.proofs.Ready.{all-sound, are-jobs, no-bounce, waits-known}
 use Rattle.tv_history.proofs.Stuck.{AtLeastOne, begun-tried, settled-name}
 use Rattle.tv_history.proofs.Done.{nothing_first, of-next, settled-none}

@@ -6,7 +6,7 @@ use Rattle.std.proofs.Common.{sym, subst, ◌∙◌}
 use Rattle.std.proofs.lemmas.List.Folds.{list_all-append}
 use Rattle.std.specs.Cmp.{first_so, second_so}
 use Rattle.tv_lemmas.specs.Members.{Each, In}
-use Rattle.tv_lemmas.proofs.OfMembers.{each_in}
+use Rattle.tv_lemmas.proofs.Members.{each_in}
 use Rattle.tv_lemmas.proofs.Lists.{all-weaken}
 use Rattle.tv_history.proofs.Legal.{last-legal, Legal, closes, passes}
 use Rattle.tv_model.proofs.Tests.{true≠false, both_true, or_right}

@@ -6,10 +6,10 @@ use Rattle.std.proofs.Common.{sym, ap, subst, ◌∙◌, inl, inr}
 use Rattle.std.proofs.lemmas.Bool.{eq-eqb}
 use Rattle.std.specs.Cmp.{first_so, second_so}
 use Rattle.tv_lemmas.specs.Members.{In}
-use Rattle.tv_lemmas.proofs.OfMembers.{any-in, each_in, some_in}
+use Rattle.tv_lemmas.proofs.Members.{any-in, each_in, some_in}
 use Rattle.tv_lemmas.proofs.Cases.{on_or}
 use Rattle.tv_value.specs.Orders.{same_job}
-use Rattle.tv_value.proofs.OfJobNames.{same_job_decides}
+use Rattle.tv_value.proofs.JobNameLemmas.{same_job_decides}
 use Rattle.tv_flow.specs.Flows.{Document}
 use Rattle.tv_gate.specs.Outcomes.{Giving}
 use Rattle.tv_dispatch.specs.Jobs.{Ask}

@@ -8,17 +8,17 @@ use Rattle.std.proofs.lemmas.Option.{same_Some}
 use Rattle.std.specs.Cmp.{first_so, second_so}
 use Rattle.std.specs.Cmp.Derive.{one_truth}
 use Rattle.tv_lemmas.specs.Members.{Each, In}
-use Rattle.tv_lemmas.proofs.OfMembers.{each_in, in_each, of-all, of-flat, of-options}
+use Rattle.tv_lemmas.proofs.Members.{each_in, in_each, of-all, of-flat, of-options}
 use Rattle.tv_value.specs.Nested.{Place, nodes}
 use Rattle.tv_value.specs.Values.{Name, JobName}
-use Rattle.tv_value.proofs.OfJobNames.{same_job_decides}
+use Rattle.tv_value.proofs.JobNameLemmas.{same_job_decides}
 use Rattle.tv_flow.specs.Flows.{Document}
 use Rattle.tv_strategy.specs.Origins.{Origin, Known, at_start, by_job, by_level, needs_of}
-use Rattle.tv_strategy.proofs.OfEach.{each-all, each-weaken}
+use Rattle.tv_strategy.proofs.Each.{each-all, each-weaken}
 use Rattle.tv_gate.specs.Outcomes.{Giving}
 use Rattle.tv_dispatch.specs.Jobs.{Ask}
 use Rattle.tv_model.specs.Jobs.{Job, job_needs}
-use Rattle.tv_instance.specs.Delivered.{StepMeaning}
+use Rattle.tv_model.specs.instance.Delivered.{StepMeaning}
 use Rattle.tv_model.specs.Made.{Meaning}
 use Rattle.tv_model.specs.Meanings.{meaning}
 use Rattle.tv_history.specs.Entries.{History, is_accepted}

@@ -5,17 +5,17 @@ use Rattle.std.proofs.Common.{sym, subst, ◌∙◌, inl, inr}
 use Rattle.std.proofs.lemmas.Bool.{not-true}
 use Rattle.std.specs.Cmp.{first_so, second_so}
 use Rattle.tv_lemmas.specs.Members.{Each, In}
-use Rattle.tv_lemmas.proofs.OfMembers.{of-all}
+use Rattle.tv_lemmas.proofs.Members.{of-all}
 use Rattle.tv_history.proofs.Legal.{last-legal, legal-of, Legal, hands, bounces, opens, ends}
 use Rattle.tv_history.proofs.Tests.{found_in, any_weaken}
 use Rattle.tv_lemmas.proofs.Cases.{on_test, on_either, on_or}
 use Rattle.tv_lemmas.proofs.Lists.{all-weaken}
 use Rattle.tv_value.specs.Values.{Name, JobName}
 use Rattle.tv_value.specs.Orders.{same_job}
-use Rattle.tv_value.proofs.OfJobNames.{same_job_decides}
+use Rattle.tv_value.proofs.JobNameLemmas.{same_job_decides}
 use Rattle.tv_gate.specs.Outcomes.{Giving}
 use Rattle.tv_model.specs.Jobs.{Job, job_needs}
-use Rattle.tv_instance.specs.Delivered.{StepMeaning}
+use Rattle.tv_model.specs.instance.Delivered.{StepMeaning}
 use Rattle.tv_model.specs.Made.{Meaning}
 use Rattle.tv_model.specs.Turns.{is_bounced}
 use Rattle.tv_history.specs.Entries.{Entry, handed_out, accepted, opened, ended, recalled, History, is_begun_entry, is_opened_entry, is_ended_entry, is_out}

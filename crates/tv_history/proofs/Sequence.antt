@@ -6,12 +6,12 @@ use Rattle.std.proofs.Common.{arith, sym, ap, subst, ◌∙◌, inl, inr, append
 use Rattle.std.proofs.lemmas.List.{map-append}
 use Rattle.std.specs.Cmp.{first_so, second_so}
 use Rattle.tv_lemmas.specs.Members.{Each, In}
-use Rattle.tv_lemmas.proofs.OfMembers.{in-flat, some_in}
+use Rattle.tv_lemmas.proofs.Members.{in-flat, some_in}
 use Rattle.tv_history.proofs.Legal.{legal-of}
 use Rattle.tv_lemmas.proofs.Cases.{on_test, on_either}
 use Rattle.tv_value.specs.Values.{Name, JobName, Value}
 use Rattle.tv_value.specs.Orders.{same_job}
-use Rattle.tv_value.proofs.OfJobNames.{same_job_decides}
+use Rattle.tv_value.proofs.JobNameLemmas.{same_job_decides}
 use Rattle.tv_flow.specs.Flows.{Flow}
 use Rattle.tv_gate.specs.Outcomes.{Giving}
 use Rattle.tv_dispatch.specs.Jobs.{Ask}
@@ -19,7 +19,7 @@ use Rattle.tv_model.specs.Jobs.{Job}
 use Rattle.tv_model.specs.Made.{Meaning, Opened, Made}
 use Rattle.tv_model.specs.Meanings.{jobs_with_inside, instance_meaning, no_meaning, flow_meaning}
 use Rattle.tv_model.specs.Turns.{is_bounced, ask_order}
-use Rattle.tv_instance.specs.Ranks.{ranked}
+use Rattle.tv_model.specs.instance.Ranks.{ranked}
 use Rattle.tv_history.specs.Entries.{Entry, accepted, opened, History, is_opened_entry, is_begun_entry}
 use Rattle.tv_model.specs.Lists.{first_of_list}
 use Rattle.tv_history.specs.Histories.{asks_left, is_settled, is_legal, is_legal_after}

@@ -6,13 +6,13 @@ use Rattle.std.proofs.Common.{arith, sym, ap, subst, ◌∙◌, inl, inr, append
 use Rattle.std.proofs.lemmas.Bool.{not-true}
 use Rattle.std.specs.Cmp.{first_so, second_so}
 use Rattle.tv_lemmas.specs.Members.{Each, In}
-use Rattle.tv_lemmas.proofs.OfMembers.{any-in, each_in, in-options}
+use Rattle.tv_lemmas.proofs.Members.{any-in, each_in, in-options}
 use Rattle.tv_history.proofs.Legal.{last-legal}
 use Rattle.tv_lemmas.proofs.Cases.{on_test, on_or}
 use Rattle.tv_value.specs.Nested.{Place}
 use Rattle.tv_value.specs.Values.{JobName, Name}
 use Rattle.tv_value.specs.Orders.{same_name, same_job}
-use Rattle.tv_value.proofs.OfJobNames.{same_job_decides}
+use Rattle.tv_value.proofs.JobNameLemmas.{same_job_decides}
 use Rattle.tv_flow.specs.Flows.{Document}
 use Rattle.tv_strategy.specs.Origins.{Origin, Known, at_start, by_job, by_level}
 use Rattle.tv_gate.specs.Outcomes.{Giving}

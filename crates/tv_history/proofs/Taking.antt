@@ -4,11 +4,11 @@ use Rattle.std.specs.List.{list_any}
 use Rattle.std.specs.Option.{option_map_or}
 use Rattle.std.proofs.Common.{arith, sym, ap, subst, ◌∙◌, inl, inr, length-append}
 use Rattle.tv_lemmas.specs.Members.{In}
-use Rattle.tv_lemmas.proofs.OfMembers.{in-append, in-left, in-right, of-all}
+use Rattle.tv_lemmas.proofs.Members.{in-append, in-left, in-right, of-all}
 use Rattle.tv_lemmas.proofs.Cases.{on_either, on_or}
 use Rattle.tv_value.specs.Values.{JobName}
 use Rattle.tv_value.specs.Orders.{same_job}
-use Rattle.tv_value.proofs.OfJobNames.{same_job_decides}
+use Rattle.tv_value.proofs.JobNameLemmas.{same_job_decides}
 use Rattle.tv_model.specs.Turns.{Turn, all_done, first_turn, asks_by_turns}
 use Rattle.tv_model.proofs.Tests.{or_right}
 use Rattle.tv_model.proofs.Turns.{or_left}

@@ -7,10 +7,10 @@ use Rattle.std.proofs.lemmas.Bool.{false_from_ne_true, lt-ltb, or_parts}
 use Rattle.std.proofs.lemmas.List.Sums.{sum_by-cons}
 use Rattle.std.proofs.lemmas.Option.{same_Some, none-some}
 use Rattle.tv_lemmas.specs.Members.{Each, In}
-use Rattle.tv_lemmas.proofs.OfMembers.{of-all}
+use Rattle.tv_lemmas.proofs.Members.{of-all}
 use Rattle.tv_value.specs.Orders.{same_job}
 use Rattle.tv_value.specs.Values.{JobName}
-use Rattle.tv_value.proofs.OfJobNames.{same_job_decides}
+use Rattle.tv_value.proofs.JobNameLemmas.{same_job_decides}
 use Rattle.tv_model.specs.Lists.{first_of_list, rest_of}
 use Rattle.tv_lemmas.proofs.Cases.{on_either, on_or}
 use Rattle.tv_model.proofs.Tests.{true≠false, or_right}

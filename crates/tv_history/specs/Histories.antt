@@ -9,7 +9,7 @@ use Rattle.tv_value.specs.Values.{JobName}
 use Rattle.tv_gate.specs.Outcomes.{Giving}
 use Rattle.tv_strategy.specs.Origins.{Known, Origin, at_start, by_job, by_level}
 use Rattle.tv_dispatch.specs.Jobs.{Ask}
-use Rattle.tv_instance.specs.Delivered.{StepMeaning}
+use Rattle.tv_model.specs.instance.Delivered.{StepMeaning}
 use Rattle.tv_model.specs.Jobs.{Job, job_needs}
 use Rattle.tv_model.specs.Levels.{Level, levels}
 use Rattle.tv_model.specs.Lists.{first_of_list, rest_of}

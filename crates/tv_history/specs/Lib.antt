@@ -9,3 +9,17 @@ pub mod Worker
 pub mod RowsOfHistories
 pub mod RowsOfRuns
 pub mod activities
+pub mod order
+pub mod agreement
+pub mod Runs
+pub mod RunCodes
+pub mod Answers
+pub mod Calls
+pub mod Settlements
+pub mod Moves
+pub mod Recalls
+pub mod Idle
+pub mod Declarations
+pub mod Refusals
+pub mod Counted
+pub mod Laws

@@ -4,7 +4,7 @@ use Rattle.std.specs.List.{list_any}
 use Rattle.std.proofs.Common.{arith, ap, sym, subst, ◌∙◌, inl, inr}
 use Rattle.std.proofs.lemmas.Bool.{cases_eq, eq-eqb, eqb-true, false_from_ne_true, or_cases, or_right}
 use Rattle.std.proofs.lemmas.List.{get_or-set_other, get_or-set_same, length-append, map-set}
-use Rattle.tv_ready.specs.Listed.{Listed, with_job}
+use Rattle.tv_idle.specs.Listed.{Listed, with_job}
 use Rattle.tv_idle.specs.declared.queues.Queues.{Queues}
 use Rattle.tv_idle.specs.Idles.{StepIdle, has_job, is_idle, is_idle_at, none_idle, of_step, with_idle, with_rooms_of, without}
 use Rattle.tv_idle.specs.Kept.{AreAllKept, AreKept, IsEmpty, IsGrown, IsKept, IsSame, IsTrimmed, is_gone, live, no_queues, queue_for, queues_of, queues_view, stands_at}

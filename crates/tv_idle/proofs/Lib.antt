@@ -1,3 +1,9 @@
 pub mod Listing
 pub mod AllSteps
-pub mod OfFaulty
+pub mod Faulty
+pub mod Comparing
+pub mod Finding
+pub mod Heaping
+pub mod Keeping
+pub mod Laying
+pub mod Sorting

@@ -8,8 +8,8 @@ use Rattle.std.proofs.Common.{arith, ap, sym, ◌∙◌, inl, inr}
 use Rattle.std.proofs.lemmas.Bool.{eqb-true, lt-ltb, ltb-true, and_parts, not-true, or_cases, or_right}
 use Rattle.std.proofs.lemmas.Cmp.{nat_list_cmp_total}
 use Rattle.std.proofs.lemmas.List.MinMax.{ranks_by}
-use Rattle.tv_ready.specs.Listed.{with_job}
-use Rattle.tv_ready.specs.Sought.{sought, stands_after}
+use Rattle.tv_idle.specs.Listed.{with_job}
+use Rattle.tv_idle.specs.Sought.{sought, stands_after}
 use Rattle.tv_idle.specs.Idles.{first_number, has_job, standing_after, without_job}
 use Rattle.tv_idle.specs.Kept.{IsKept, are_below, are_in_order, is_gone, live, starts_gone, trimmed}
 

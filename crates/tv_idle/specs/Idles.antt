@@ -3,8 +3,8 @@ use Rattle.std.specs.Prelude.{ℕ, ◌-◌, ◌==◌, ◌||◌, not, Bool, true,
 use Rattle.std.specs.Cmp.Lexicographic.{slice_cmp}
 use Rattle.std.specs.List.{list_any}
 use Rattle.std.specs.Ordering.{is_lt, nat_cmp, ordering_then}
-use Rattle.tv_ready.specs.Listed.{with_job}
-use Rattle.tv_ready.specs.Sought.{stands_after}
+use Rattle.tv_idle.specs.Listed.{with_job}
+use Rattle.tv_idle.specs.Sought.{stands_after}
 
 -- those of one step, each with its number and its place
 pub record StepIdle : Type 0 where

@@ -1,2 +1,9 @@
 pub mod Idles
 pub mod Kept
+pub mod Orders
+pub mod Tables
+pub mod Slots
+pub mod Heaps
+pub mod Listed
+pub mod Laid
+pub mod Sought

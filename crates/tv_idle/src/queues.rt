@@ -2,11 +2,11 @@
 ghost use Rattle.std.specs.Prelude.{◌≡◌, ◌+◌, ◌<◌, ◌==◌, ◌||◌, not, length, true, OnOk};
 ghost use Rattle.tv_idle.specs.Idles.{first_number, first_of, is_before};
 ghost use Rattle.tv_idle.specs.Kept.{IsEmpty, IsGrown, IsSame, IsTrimmed, are_below, is_gone, starts_gone};
-ghost use Rattle.tv_ready.specs.Sought.{sought};
+ghost use Rattle.tv_idle.specs.Sought.{sought};
 
+use crate::Ready;
 use std::alloc::Global;
 use std::cmp::Ordering;
-use tv_ready::Ready;
 use tv_value::NoMemory;
 
 /// The known jobs of one step, those that bind no fault and those that bind one. Some may have gone.

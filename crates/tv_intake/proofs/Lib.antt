@@ -1,2 +1,2 @@
-pub mod OfSorting
-pub mod OfIntakes
+pub mod SortingLemmas
+pub mod IntakeLemmas

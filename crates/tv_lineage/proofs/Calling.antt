@@ -19,7 +19,7 @@ use Rattle.tv_lemmas.specs.Members.{In}
 use Rattle.tv_value.specs.Nested.{Place}
 use Rattle.tv_value.specs.Orders.{job_name_cmp, name_cmp, place_cmp, same_job, same_name}
 use Rattle.tv_value.specs.Values.{JobName, Name}
-use Rattle.tv_value.proofs.OfJobNames.{same_job_decides}
+use Rattle.tv_value.proofs.JobNameLemmas.{same_job_decides}
 use Rattle.tv_lineage.specs.Kept as kept
 use Rattle.tv_lineage.specs.Kept.{Kept, is_noted, parts_in, records_of}
 use Rattle.tv_lineage.specs.Lineages.{Record, backward, is_made_from, leaf_label}

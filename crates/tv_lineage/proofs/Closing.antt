@@ -7,11 +7,11 @@ use Rattle.std.proofs.lemmas.Map.Lookups.{exact_bytes, exact_pairs}
 use Rattle.std.proofs.Common.{Equal}
 use Rattle.std.proofs.lemmas.Bool.{true≢false}
 use Rattle.tv_lemmas.specs.Members.{In}
-use Rattle.tv_lemmas.proofs.OfMembers.{filter-shorter, in-filter, in-flat, of-filter, of-flat}
+use Rattle.tv_lemmas.proofs.Members.{filter-shorter, in-filter, in-flat, of-filter, of-flat}
 use Rattle.tv_value.specs.Nested.{Place}
 use Rattle.tv_value.specs.Values.{Name, JobName}
 use Rattle.tv_value.specs.Orders.{same_job, name_cmp, place_cmp, in_order}
-use Rattle.tv_value.proofs.OfJobNames.{same_job_decides}
+use Rattle.tv_value.proofs.JobNameLemmas.{same_job_decides}
 use Rattle.tv_lineage.specs.Members.{IsWithin, HaveSame, Rises}
 use Rattle.tv_lineage.specs.Touching.{Mark, given, made, Label, label_cmp}
 use Rattle.tv_lineage.specs.Lineages.{Record, LeadsIn, Leads, IsReached, used_by, labels_in, backward}

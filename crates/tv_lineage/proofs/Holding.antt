@@ -9,10 +9,10 @@ use Rattle.std.specs.Cmp.Derive.{one_truth}
 use Rattle.std.proofs.lemmas.Bool.{eqb-true}
 use Rattle.std.proofs.Math.Bool.{or-true}
 use Rattle.tv_lemmas.specs.Members.{Each, In}
-use Rattle.tv_lemmas.proofs.OfMembers.{each_in, in-append}
+use Rattle.tv_lemmas.proofs.Members.{each_in, in-append}
 use Rattle.tv_value.specs.Orders.{same_job}
 use Rattle.tv_value.specs.Values.{JobName}
-use Rattle.tv_value.proofs.OfJobNames.{same_job_decides}
+use Rattle.tv_value.proofs.JobNameLemmas.{same_job_decides}
 use Rattle.tv_lineage.specs.Kept as kept
 use Rattle.tv_lineage.specs.Kept.{Groups, IsBefore, Kept, KeptRecord, all_marks, element, group, is_noted, parts_by, parts_in, record_kept, records_of, result}
 use Rattle.tv_lineage.specs.Reaching.{AreInside, AreNumbers, IsNumber, Numbers, number_of}

@@ -4,11 +4,11 @@ use Rattle.std.specs.Prelude.{◌++◌, ◌||◌, ◌≡◌, refl, ℕ, zero, su
 use Rattle.std.proofs.Common.{arith, sym, ap, subst, ◌∙◌, inl, inr}
 use Rattle.std.proofs.lemmas.Bool.{eq-eqb, eqb-true, true≢false}
 use Rattle.tv_lemmas.specs.Members.{In}
-use Rattle.tv_lemmas.proofs.OfMembers.{each_in, in-flat, in-map, of-flat, of-map}
+use Rattle.tv_lemmas.proofs.Members.{each_in, in-flat, in-map, of-flat, of-map}
 use Rattle.tv_value.specs.Nested.{Place}
 use Rattle.tv_value.specs.Values.{Name, JobName}
 use Rattle.tv_value.specs.Orders.{same_job}
-use Rattle.tv_value.proofs.OfJobNames.{same_job_decides}
+use Rattle.tv_value.proofs.JobNameLemmas.{same_job_decides}
 use Rattle.tv_lineage.specs.Touching.{Mark, given, made, Label}
 use Rattle.tv_lineage.specs.Lineages.{Record, LeadsIn, IsReached}
 use Rattle.tv_lineage.specs.Kept.{Part, element, result, group, KeptRecord, Kept, Groups, part_marks, group_marks, marks_of, all_marks, record_kept, records_of, parts_by, parts_in, parts_next, IsBefore, AreBefore}

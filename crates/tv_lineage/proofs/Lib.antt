@@ -8,5 +8,5 @@ pub mod Holding
 pub mod Placing
 pub mod Passing
 pub mod Calling
-pub mod OfLaws
+pub mod LawLemmas
 pub mod Computed

@@ -3,7 +3,7 @@ use Rattle.std.specs.List.{list_any}
 use Rattle.std.specs.Prelude.{Bool, List, false, if◌then◌else◌, length, map, suc, true, ℕ, ◌+◌, ◌<◌, ◌≡◌, ◌≤◌, ◌⊎◌}
 use Rattle.std.proofs.Common.{ap, arith, get_or, inl, inr, length-set, set, subst, sym, ◌∙◌}
 use Rattle.std.proofs.lemmas.Bool.{true≢false, cases_eq}
-use Rattle.tv_lemmas.proofs.OfMembers.{in-map}
+use Rattle.tv_lemmas.proofs.Members.{in-map}
 use Rattle.tv_value.specs.Nested.{Place}
 use Rattle.tv_value.specs.Values.{Name}
 use Rattle.tv_lineage.specs.Kept.{Kept, Part, group, parts_in}
@@ -15,7 +15,7 @@ use Rattle.tv_lineage.specs.declared.records.Entry.{Entry}
 use Rattle.tv_lineage.proofs.Holding.{parts-at}
 use Rattle.tv_lineage.proofs.Seeing.{in-get, of-set, unmet-set}
 use Rattle.tv_lineage.proofs.Tabling.{grows}
-use Rattle.tv_lemmas.proofs.OfMembers.{any-in}
+use Rattle.tv_lemmas.proofs.Members.{any-in}
 
 -- one that passes is enough
 pub any-here : {A : Type 0} (view : A → Part) (t : Part → Bool) (xs : List A) (i : ℕ) (x : A) → i < length xs → x ≡ get_or xs i x → t (view x) ≡ true → list_any t (map view xs) ≡ true

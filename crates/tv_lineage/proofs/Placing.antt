@@ -7,11 +7,11 @@ use Rattle.std.proofs.lemmas.Cmp.{nat_list_cmp_total}
 use Rattle.std.proofs.lemmas.List.{take_all}
 use Rattle.std.proofs.lemmas.Map.Lookups.{exact_bytes}
 use Rattle.tv_lemmas.specs.Members.{In}
-use Rattle.tv_lemmas.proofs.OfMembers.{in-append, in-left, in-right}
+use Rattle.tv_lemmas.proofs.Members.{in-append, in-left, in-right}
 use Rattle.tv_value.specs.Nested.{Place}
 use Rattle.tv_value.specs.Orders.{in_order, place_cmp}
 use Rattle.tv_value.specs.Values.{JobName, Name}
-use Rattle.tv_value.proofs.OfFaults.{put-as-key}
+use Rattle.tv_value.proofs.Faults.{put-as-key}
 use Rattle.tv_lineage.specs.Kept.{KeptRecord, Groups, Part, record_kept, records_of}
 use Rattle.tv_lineage.specs.Lineages.{Record, by_step, job_at, place_at}
 use Rattle.tv_lineage.specs.Members.{HaveSame, Rises}

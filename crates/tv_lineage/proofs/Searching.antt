@@ -2,7 +2,7 @@
 use Rattle.std.specs.Prelude.{IfSome, List, None, Option, Some, [], length, refl, suc, zero, ℕ, ◌+◌, ◌++◌, ◌≡◌, ◌⊎◌, ◌∷◌}
 use Rattle.std.proofs.Common.{ap, arith, inl, inr, length-append, subst, sym, ◌∙◌}
 use Rattle.tv_lemmas.specs.Members.{In}
-use Rattle.tv_lemmas.proofs.OfMembers.{in-append, of-flat}
+use Rattle.tv_lemmas.proofs.Members.{in-append, of-flat}
 use Rattle.tv_value.specs.Values.{JobName}
 use Rattle.tv_lineage.specs.Kept.{AreBefore, Kept, Part, all_marks, element, group, group_marks, marks_of, parts_by, parts_in, parts_next, records_of, result}
 use Rattle.tv_lineage.specs.Lineages.{IsReached, Record, backward}

@@ -5,7 +5,7 @@ use Rattle.std.proofs.Common.{ap, arith, get_or, get_or-set_other, get_or-set_sa
 use Rattle.tv_value.specs.Nested.{Place}
 use Rattle.tv_value.specs.Orders.{put_in_order}
 use Rattle.tv_value.specs.Values.{JobName, Name}
-use Rattle.tv_value.proofs.OfFaults.{put-as-key}
+use Rattle.tv_value.proofs.Faults.{put-as-key}
 use Rattle.tv_lineage.specs.Kept.{Part, element, group, result}
 use Rattle.tv_lineage.specs.Reaching.{AreInside, IsMet, IsSeen, Numbers, Search, Sees, is_met, number_of, unmet}
 use Rattle.tv_lineage.specs.Touching.{Label, label_cmp}
@@ -17,7 +17,7 @@ use Rattle.tv_lineage.specs.declared.mark.Part.TheVariants.{Group}
 use Rattle.std.proofs.lemmas.List.{map_more}
 use Rattle.std.proofs.lemmas.Bool.{true≢false, cases_eq}
 use Rattle.tv_lemmas.specs.Members.{In}
-use Rattle.tv_lemmas.proofs.OfMembers.{in-append, in-left, in-map, in-right}
+use Rattle.tv_lemmas.proofs.Members.{in-append, in-left, in-map, in-right}
 use Rattle.tv_lineage.proofs.Closing.{label_same, label_total}
 use Rattle.tv_lineage.proofs.Rising.{in-put, of-put, rises-put}
 

@@ -5,7 +5,7 @@ use Rattle.std.proofs.Common.{ap, inl, sym, ◌∙◌}
 use Rattle.std.specs.Cmp.Derive.{one_truth}
 use Rattle.std.proofs.lemmas.Bool.{true≢false}
 use Rattle.tv_lemmas.specs.Members.{In}
-use Rattle.tv_lemmas.proofs.OfMembers.{some_in, any-in, of-flat}
+use Rattle.tv_lemmas.proofs.Members.{some_in, any-in, of-flat}
 use Rattle.tv_value.specs.Nested.{Place}
 use Rattle.tv_value.specs.Values.{JobName, Name}
 use Rattle.tv_lineage.specs.Kept.{AreBefore, Kept, Part, all_marks, element, group, marks_of, parts_by, parts_in, parts_next, records_of, result}

@@ -1,8 +1,8 @@
-pub mod OfNumbers
-pub mod OfComplaints
-pub mod OfSplits
-pub mod OfTexts
-pub mod OfLists
+pub mod Numbers
+pub mod Complaints
+pub mod Splits
+pub mod Texts
+pub mod Lists
 pub mod Examples
 pub mod Single
-pub mod OfBeginnings
+pub mod Beginnings

@@ -7,12 +7,12 @@ use Rattle.tv_value.specs.Values.{Name}
 use Rattle.tv_value.specs.Strategies.{Strategy}
 use Rattle.tv_strategy.specs.Conditions.{number_of}
 use Rattle.tv_strategy.specs.Measures.{strategy_depth}
-use Rattle.tv_strategy.proofs.OfSources.{each-append}
+use Rattle.tv_strategy.proofs.Sources.{each-append}
 use Rattle.tv_matching.specs.Members.{Once}
 use Rattle.tv_matching.specs.Told.{Told, told_to, matched_after, IsFit, IsNew}
 use Rattle.tv_matching.specs.Matchers.{Matching, out as out_of, CanTell, IsTold, IsFreed}
 use Rattle.tv_matching.proofs.Permutes.{perm-from}
-use Rattle.tv_matching.proofs.OfLaws.{new-is_once}
+use Rattle.tv_matching.proofs.LawLemmas.{new-is_once}
 use Rattle.tv_match.specs.Entries.{Entry, no_entry, entry_at, front, AreMore}
 use Rattle.tv_match.specs.Filed.{Filed}
 use Rattle.tv_match.specs.Working.{IsDone}

@@ -6,7 +6,7 @@ use Rattle.std.proofs.Common.{◌≡◌, inl, inr, refl, ℕ, zero, suc, ◌<◌
 use Rattle.std.proofs.lemmas.List.{length-take-le, length-map}
 use Rattle.std.proofs.lemmas.List.Folds.{flat_map-map}
 use Rattle.tv_lemmas.specs.Members.{In}
-use Rattle.tv_lemmas.proofs.OfMembers.{in-flat, of-map}
+use Rattle.tv_lemmas.proofs.Members.{in-flat, of-map}
 use Rattle.tv_lemmas.proofs.Lists.{map-take}
 use Rattle.tv_value.specs.Nested.{Place}
 use Rattle.tv_value.specs.Values.{Name}
@@ -14,7 +14,7 @@ use Rattle.tv_value.specs.Strategies.{Strategy}
 use Rattle.tv_strategy.specs.Conditions.{number_of}
 use Rattle.tv_strategy.specs.Measures.{leaf_names}
 use Rattle.tv_strategy.specs.Splits.{same_place}
-use Rattle.tv_strategy.proofs.OfPlaces.{same-itself}
+use Rattle.tv_strategy.proofs.PlaceLemmas.{same-itself}
 use Rattle.tv_matching.specs.Items.{Kind, ends, closes, passes, Item, if_so}
 use Rattle.tv_matching.specs.Members.{at_place, Once}
 use Rattle.tv_matching.specs.Told.{Spot, Told, Marked, marked_after, matched_after, binds_some, faulty_at}
@@ -23,8 +23,8 @@ use Rattle.tv_matching.specs.Matched.{matched}
 use Rattle.tv_matching.specs.Stores.{store_for, worked_items}
 use Rattle.tv_matching.proofs.Bared.{plain, marked-is_matched, kept-is_enough}
 use Rattle.tv_matching.proofs.Lists.{flat-same, map-flat, map-if}
-use Rattle.tv_matching.proofs.OfLaws.{matches-once}
-use Rattle.tv_matching.proofs.OfMembers.{in-if, in-permutes}
+use Rattle.tv_matching.proofs.LawLemmas.{matches-once}
+use Rattle.tv_matching.proofs.Members.{in-if, in-permutes}
 use Rattle.tv_match.specs.declared.kinds.Kind as kinds
 use Rattle.tv_match.specs.Entries.{Entry, entry_at, kept_entry, kepts, kind_view, front}
 use Rattle.tv_match.specs.Brief.{brief, brief_kind, briefs}

@@ -1,8 +1,8 @@
 -- The items before those that late tellings brought.
 use Rattle.std.proofs.Common.{◌≡◌, refl, ℕ, zero, suc, ◌<◌, ◌≤◌, Bool, true, false, nat_lt, List, [], ◌∷◌, ◌++◌, length, take, sym, ap, subst, ◌∙◌, arith, take-suc, take_all, append_assoc, append-nil}
 use Rattle.tv_lemmas.specs.Members.{Each}
-use Rattle.tv_strategy.proofs.OfSources.{each-append}
-use Rattle.tv_strategy.proofs.OfEach.{each-weaken}
+use Rattle.tv_strategy.proofs.Sources.{each-append}
+use Rattle.tv_strategy.proofs.Each.{each-weaken}
 use Rattle.tv_match.specs.Entries.{Entry, no_entry, entry_at, before_last, front, AreMore, Rise}
 
 late : (n m : ℕ) → n < m → nat_lt n m ≡ true

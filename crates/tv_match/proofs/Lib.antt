@@ -19,6 +19,6 @@ pub mod Placing
 pub mod Unchanged
 pub mod FaultsAhead
 pub mod Cancelled
-pub mod OfLaws
+pub mod LawLemmas
 pub mod Scripts
 mod Shells

@@ -8,12 +8,12 @@ use Rattle.tv_value.specs.Values.{Name}
 use Rattle.tv_value.specs.Strategies.{Strategy}
 use Rattle.tv_strategy.specs.Conditions.{number_of}
 use Rattle.tv_strategy.specs.Measures.{leaf_names}
-use Rattle.tv_strategy.proofs.OfSources.{each-append}
+use Rattle.tv_strategy.proofs.Sources.{each-append}
 use Rattle.tv_matching.specs.Members.{Once}
 use Rattle.tv_matching.specs.Told.{told_to, matched_after, count_of_added, IsFit}
 use Rattle.tv_matching.specs.Matchers.{out as out_of, Holds}
 use Rattle.tv_matching.specs.Stores.{store_for, worked_items}
-use Rattle.tv_matching.proofs.OfLaws.{tellings-count}
+use Rattle.tv_matching.proofs.LawLemmas.{tellings-count}
 use Rattle.tv_match.specs.declared.told.Told as code
 use Rattle.tv_match.specs.Entries.{Entry, kepts, front}
 use Rattle.tv_match.specs.Brief.{briefs}

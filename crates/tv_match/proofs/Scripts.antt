@@ -6,7 +6,7 @@ use Rattle.tv_value.specs.Values.{Name}
 use Rattle.tv_value.specs.Strategies.{Strategy, port, cross, dot, strategy, no_strategies}
 use Rattle.tv_matching.specs.Told.{Told}
 use Rattle.tv_matching.specs.Matchers.{Matching, CanTell, CanTellAll, Starts, Holds, IsTold}
-use Rattle.tv_matching.proofs.OfMatchers.{can-tell_all-permutes, can-tell_all-after}
+use Rattle.tv_matching.proofs.Matchers.{can-tell_all-permutes, can-tell_all-after}
 use Rattle.tv_match.specs.declared.told.Told as code
 use Rattle.tv_match.specs.Seen.{told_view, leaf_of, NameLeaves}
 use Rattle.tv_match.specs.Scripts.{started, IsScript}

@@ -13,8 +13,8 @@ use Rattle.tv_value.specs.Orders.{same_name}
 use Rattle.tv_value.specs.Strategies.{Strategy}
 use Rattle.tv_strategy.specs.Conditions.{times, EachOnce}
 use Rattle.tv_strategy.specs.Measures.{DotsAgree, leaf_names, strategy_depth}
-use Rattle.tv_strategy.proofs.OfPlaces.{same-itself}
-use Rattle.tv_strategy.proofs.OfEach.{each-weaken}
+use Rattle.tv_strategy.proofs.PlaceLemmas.{same-itself}
+use Rattle.tv_strategy.proofs.Each.{each-weaken}
 use Rattle.tv_matching.specs.Items.{Kind, Item, ends, closes, passes, item, if_so}
 use Rattle.tv_matching.specs.Levels.{KindAt}
 use Rattle.tv_matching.specs.Members.{Once}
@@ -23,9 +23,9 @@ use Rattle.tv_matching.specs.Told.{Spot, told_to, matched_after, Marked, marked,
 use Rattle.tv_matching.specs.Matchers.{Kept, kept_item, kept_of, kept_out, kept_kind_out, leaf_name, leaf_number, out}
 use Rattle.tv_matching.specs.Stores.{store_for, AreNumbered, items, told_by_all, worked_items}
 use Rattle.tv_matching.proofs.Lists.{map-same, map-if, each-map}
-use Rattle.tv_matching.proofs.OfMembers.{each-permutes}
-use Rattle.tv_matching.proofs.OfStores.{items-none}
-use Rattle.tv_matching.proofs.OfLaws.{matches-once, store-is_matched, store-starts, store-works}
+use Rattle.tv_matching.proofs.Members.{each-permutes}
+use Rattle.tv_matching.proofs.Stores.{items-none}
+use Rattle.tv_matching.proofs.LawLemmas.{matches-once, store-is_matched, store-starts, store-works}
 use Rattle.tv_matching.proofs.Bared.{plain, marked-is_matched, kept-is_enough}
 use Rattle.tv_match.specs.declared.kinds.Kind as kinds
 use Rattle.tv_match.specs.Entries.{Entry, entry, entry_at, kept_entry, kepts, kind_view}

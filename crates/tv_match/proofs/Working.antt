@@ -4,7 +4,7 @@ use Rattle.std.proofs.lemmas.List.{length-take-le, map-append}
 use Rattle.std.proofs.Math.Seq.{take-length}
 use Rattle.tv_lemmas.specs.Members.{Each}
 use Rattle.tv_value.specs.Strategies.{Strategy}
-use Rattle.tv_strategy.proofs.OfEach.{each-weaken}
+use Rattle.tv_strategy.proofs.Each.{each-weaken}
 use Rattle.tv_matching.specs.Stores as spec
 use Rattle.tv_matching.specs.Stores.{leaf_store, cross_store, dot_store, store_for, News, gain, grown, told_by, store_after, worked_items}
 use Rattle.tv_match.specs.Entries.{Entry, kepts, front, AreMore, Rise}

@@ -15,7 +15,7 @@ use Rattle.tv_strategy.specs.Measures.{leaf_names}
 use Rattle.tv_matching.specs.Items.{Kind, ends, closes, passes, Item, item, if_so}
 use Rattle.tv_matching.specs.Matched.{bound, below, replaced, replaced_below, crossed_items, below_jobs, meet_kinds, meet, joined_items, same, matched, matched_cross, matched_dot, gained, gained_cross, gained_dot}
 use Rattle.tv_strategy.specs.Origins.{Traced}
-use Rattle.tv_strategy.proofs.OfEach.{each-all, each-weaken}
+use Rattle.tv_strategy.proofs.Each.{each-all, each-weaken}
 use Rattle.tv_matching.specs.Members.{at_place}
 use Rattle.tv_matching.specs.Tellings.{Telling, told_of, after}
 use Rattle.tv_matching.specs.Told.{Spot, Told, arrival, faulty, close, telling, matched_after, Marked, marked, marked_to, marked_after, map_kind, map_item, binds_some, some_at, TellsFaults, bound_there, stop_there}

@@ -16,9 +16,9 @@ use Rattle.tv_strategy.specs.Measures.{strategy_depth, DotsAgree, AllDotsAgree, 
 use Rattle.tv_strategy.specs.Levels.{HasLevels, AllHaveLevels}
 use Rattle.tv_strategy.specs.Splits.{same_place}
 use Rattle.tv_strategy.proofs.AtDepth.{iteration-levels, dot_of-levels}
-use Rattle.tv_strategy.proofs.OfSources.{each-append}
-use Rattle.tv_strategy.proofs.OfEach.{each-all, each-weaken}
-use Rattle.tv_strategy.proofs.OfLists.{count-each_paired}
+use Rattle.tv_strategy.proofs.Sources.{each-append}
+use Rattle.tv_strategy.proofs.Each.{each-all, each-weaken}
+use Rattle.tv_strategy.proofs.Lists.{count-each_paired}
 use Rattle.tv_matching.specs.Items.{Kind, ends, closes, passes, Item, item, Bound, Stopped, end_kind, within, here, if_so, all_known, known_items, known_from}
 use Rattle.tv_matching.specs.Matched.{bound, below, replaced, crossed_items, meet_kinds, meet, joined_items, same, matched, matched_cross, matched_dot}
 use Rattle.tv_matching.proofs.Lists.{flat-append, flat-none, flat-same, map-flat, flat-single, map-if, flat-nothing, flat-each, each-map, each-if}

@@ -6,7 +6,7 @@ use Rattle.std.proofs.lemmas.List.{length-map}
 use Rattle.std.proofs.lemmas.Option.{same_Some}
 use Rattle.std.proofs.lemmas.List.Folds.{flat_map-map}
 use Rattle.tv_lemmas.specs.Members.{Each, In}
-use Rattle.tv_lemmas.proofs.OfMembers.{each_in, in-flat, in-map, of-flat, of-map}
+use Rattle.tv_lemmas.proofs.Members.{each_in, in-flat, in-map, of-flat, of-map}
 use Rattle.tv_value.specs.Nested.{leaf, list, Trees, no_trees, tree, Place, count, note, notes, all_notes, at, item_at}
 use Rattle.tv_value.specs.Values.{Name, Scalar, text, fault, Value}
 use Rattle.tv_value.specs.Orders.{same_name}
@@ -16,14 +16,14 @@ use Rattle.tv_strategy.specs.Iterations.{passed, Iteration, walk, walk_each, wal
 use Rattle.tv_strategy.specs.Levels.{HasLevels}
 use Rattle.tv_strategy.specs.Measures.{DotsAgree}
 use Rattle.tv_strategy.specs.Splits.{same_place}
-use Rattle.tv_strategy.proofs.OfEnds.{item_at-walk_each}
-use Rattle.tv_strategy.proofs.OfPlaces.{same-equal, same-itself}
+use Rattle.tv_strategy.proofs.Ends.{item_at-walk_each}
+use Rattle.tv_strategy.proofs.PlaceLemmas.{same-equal, same-itself}
 use Rattle.tv_matching.specs.Items.{ends, closes, passes, Item, item, if_so, kind_of, Node, node_at, all_known, known_items}
 use Rattle.tv_matching.specs.Members.{at_place, Once}
 use Rattle.tv_matching.specs.Tellings.{Telling}
 use Rattle.tv_matching.specs.Told.{Spot, Told, arrival, faulty, close, told_leaf, told_place, telling, tellings, told_to, matched_after, value_there, stop_of, item_there, bound_there, stop_there, IsTrueOf, IsThere, IsFaultThere, IsListThere, labelled, some, is_told, node_told}
 use Rattle.tv_matching.proofs.Lists.{flat-same, map-flat, map-if}
-use Rattle.tv_matching.proofs.OfMembers.{in-if, of-if, in-permutes}
+use Rattle.tv_matching.proofs.Members.{in-if, of-if, in-permutes}
 use Rattle.tv_matching.proofs.FromScratch.{WalkItem, known-more}
 use Rattle.tv_matching.proofs.Nodes.{of-known, in-known, IsNodeOf, node-stands, node-in}
 use Rattle.tv_matching.proofs.Onces.{known-once, once-permutes}

@@ -2,7 +2,7 @@ pub mod Lists
 pub mod FromScratch
 pub mod Permutes
 pub mod Gains
-pub mod OfMembers
+pub mod Members
 pub mod Nodes
 pub mod Onces
 pub mod Matches
@@ -10,8 +10,8 @@ pub mod Natural
 pub mod Heard
 pub mod Computed
 pub mod Lookups
-pub mod OfLaws
+pub mod LawLemmas
 pub mod Prefixed
-pub mod OfStores
-pub mod OfMatchers
+pub mod Stores
+pub mod Matchers
 pub mod Bared

@@ -3,7 +3,7 @@ use Rattle.std.specs.Prelude.{◌≡◌, refl, Bool, true, false}
 use Rattle.std.proofs.Common.{sym, subst, ◌∙◌}
 use Rattle.tv_value.specs.Nested.{Place}
 use Rattle.tv_strategy.specs.Splits.{same_place}
-use Rattle.tv_strategy.proofs.OfPlaces.{same-equal, same-itself}
+use Rattle.tv_strategy.proofs.PlaceLemmas.{same-equal, same-itself}
 
 pub same-flips : (q r : Place) → same_place q r ≡ same_place r q
 same-flips q r = by (same_place q r) (same_place r q) refl refl

@@ -14,7 +14,7 @@ use Rattle.tv_matching.specs.Matched.{matched}
 use Rattle.tv_matching.proofs.FromScratch.{WalkItem, iteration-known}
 use Rattle.tv_matching.proofs.Permutes.{perm-from}
 use Rattle.tv_matching.proofs.Gains.{matched-permutes}
-use Rattle.tv_matching.proofs.OfMembers.{in-permutes}
+use Rattle.tv_matching.proofs.Members.{in-permutes}
 use Rattle.tv_matching.proofs.Nodes.{of-known, in-known}
 
 module _ (known : Origin → Bool) (ports : Name → Iteration) (mismatch : Name → ℕ) (walks : (p : Name) → HasLevels (ports p) (mismatch p)) (told : Name → List WalkItem) (agrees : (p : Name) → IsPermutation (told p) (known_items known (ports p))) where

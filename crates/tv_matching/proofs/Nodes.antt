@@ -3,13 +3,13 @@ use Rattle.std.specs.Prelude.{◌≡◌, refl, ℕ, zero, suc, ◌+◌, Bool, tr
 use Rattle.std.proofs.Common.{arith, sym, ap, subst, ◌∙◌, inl, inr}
 use Rattle.std.proofs.lemmas.List.Folds.{flat_map-map}
 use Rattle.tv_lemmas.specs.Members.{In}
-use Rattle.tv_lemmas.proofs.OfMembers.{in-append, in-flat, in-left, in-map, in-right, of-flat, of-map}
+use Rattle.tv_lemmas.proofs.Members.{in-append, in-flat, in-left, in-map, in-right, of-flat, of-map}
 use Rattle.tv_value.specs.Nested.{leaf, list, no_trees, tree, Place, count, at, item_at}
 use Rattle.tv_strategy.specs.Origins.{Origin}
 use Rattle.tv_strategy.specs.Iterations.{Iteration, Iterations}
 use Rattle.tv_matching.specs.Items.{closes, end_kind, within, here, if_so, Node, node_at, inside, nodes_of, nodes_from, all_known, known_items, known_from}
 use Rattle.tv_matching.proofs.Lists.{flat-append, flat-same, map-flat, map-if}
-use Rattle.tv_matching.proofs.OfMembers.{in-if, of-if}
+use Rattle.tv_matching.proofs.Members.{in-if, of-if}
 use Rattle.tv_matching.proofs.FromScratch.{WalkItem}
 
 module _ (known : Origin → Bool) where

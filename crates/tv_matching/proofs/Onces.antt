@@ -15,9 +15,9 @@ use Rattle.tv_strategy.specs.Origins.{Origin}
 use Rattle.tv_strategy.specs.Iterations.{Iteration, Iterations}
 use Rattle.tv_strategy.specs.Measures.{strategy_depth, sum_of_depths, first_depth, DotsAgree, AllDotsAgree, HaveOneDepth}
 use Rattle.tv_strategy.specs.Splits.{same_place}
-use Rattle.tv_strategy.proofs.OfPlaces.{same-equal, same-itself}
-use Rattle.tv_strategy.proofs.OfSources.{each-append}
-use Rattle.tv_strategy.proofs.OfEach.{each-all, each-weaken}
+use Rattle.tv_strategy.proofs.PlaceLemmas.{same-equal, same-itself}
+use Rattle.tv_strategy.proofs.Sources.{each-append}
+use Rattle.tv_strategy.proofs.Each.{each-all, each-weaken}
 use Rattle.tv_matching.specs.Items.{Kind, ends, closes, passes, Item, item, Bound, Stopped, end_kind, within, here, if_so, all_known, known_items, known_from}
 use Rattle.tv_matching.specs.Members.{at_place, Once}
 use Rattle.tv_matching.specs.Levels.{KindAt, AreLeveled}

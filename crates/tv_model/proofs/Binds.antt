@@ -18,9 +18,9 @@ use Rattle.tv_strategy.specs.Measures.{DotsAgree, leaf_names}
 use Rattle.tv_strategy.specs.Origins.{Origin, Traced}
 use Rattle.tv_strategy.specs.Splits.{split}
 use Rattle.tv_strategy.proofs.AtPlace.{JobsAt, split-jobs}
-use Rattle.tv_strategy.proofs.OfEnds.{item_at-walk_each}
-use Rattle.tv_strategy.proofs.OfLaws.{split-names_leaves}
-use Rattle.tv_strategy.proofs.OfSources.{each-append}
+use Rattle.tv_strategy.proofs.Ends.{item_at-walk_each}
+use Rattle.tv_strategy.proofs.LawLemmas.{split-names_leaves}
+use Rattle.tv_strategy.proofs.Sources.{each-append}
 pub use Rattle.tv_model.specs.RightDepths.{HaveTheseDepths}
 use Rattle.tv_model.proofs.Tests.{true≠false}
 

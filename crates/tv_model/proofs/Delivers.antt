@@ -11,10 +11,10 @@ use Rattle.tv_strategy.specs.Origins.{Traced, fixed, input_value}
 use Rattle.tv_strategy.specs.Iterations.{Iteration}
 use Rattle.tv_strategy.specs.Measures.{strategy_depth}
 use Rattle.tv_gate.specs.Outcomes.{Giving}
-use Rattle.tv_naming.proofs.OfLists.{find-map}
-use Rattle.tv_instance.specs.Delivered.{Delivered, Ported, nothing_delivered, wrapped, at_port}
+use Rattle.tv_naming.proofs.Lists.{find-map}
+use Rattle.tv_model.specs.instance.Delivered.{Delivered, Ported, nothing_delivered, wrapped, at_port}
 use Rattle.tv_model.specs.Made.{Made, Meaning, Opened, link_value, feed_value, delivered_outputs}
-use Rattle.tv_instance.specs.Steps.{port_mismatch, strategy_of}
+use Rattle.tv_model.specs.instance.Steps.{port_mismatch, strategy_of}
 use Rattle.tv_model.specs.Instances.{step_made, value_given}
 use Rattle.tv_model.specs.Agreeing.{constant_depth, StepDepths, link_depth, feed_depth, port_depth, step_depths, AllAre, FeedAgrees, InputsHave}
 pub use Rattle.tv_model.specs.RightDepths.{AreRight, IsRight}

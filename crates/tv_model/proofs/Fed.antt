@@ -8,13 +8,13 @@ use Rattle.tv_value.specs.Orders.{same_name, named}
 use Rattle.tv_flow.specs.Flows.{Link, input, output, Feed, link, merge, constant, Step}
 use Rattle.tv_strategy.specs.Origins.{Origin, Traced, fixed}
 use Rattle.tv_strategy.specs.Iterations.{job, Iteration, walk, iteration}
-use Rattle.tv_instance.specs.Delivered.{Delivered, Ported, nothing_delivered, merged, wrapped, at_port}
+use Rattle.tv_model.specs.instance.Delivered.{Delivered, Ported, nothing_delivered, merged, wrapped, at_port}
 use Rattle.tv_model.specs.Made.{Made, link_value, feed_value, endings}
-use Rattle.tv_instance.specs.Steps.{strategy_of, port_iteration}
-use Rattle.tv_instance.specs.Ranks.{is_among}
-use Rattle.tv_strategy.proofs.OfSources.{each-append, walk-have, iteration-have, traced-have}
+use Rattle.tv_model.specs.instance.Steps.{strategy_of, port_iteration}
+use Rattle.tv_model.specs.instance.Ranks.{is_among}
+use Rattle.tv_strategy.proofs.Sources.{each-append, walk-have, iteration-have, traced-have}
 use Rattle.tv_strategy.specs.Sources.{AtNodes, AtAllNodes, SourcesHave}
-use Rattle.tv_strategy.proofs.OfEach.{each-all}
+use Rattle.tv_strategy.proofs.Each.{each-all}
 
 -- ---- lists and look-ups
 

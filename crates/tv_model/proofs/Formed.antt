@@ -4,22 +4,22 @@ use Rattle.std.proofs.Common.{sym, ap, subst, ◌∙◌, inl, inr}
 use Rattle.std.specs.Cmp.Lexicographic.{bytes_decides}
 use Rattle.std.proofs.lemmas.Option.{same_Some}
 use Rattle.tv_lemmas.specs.Members.{Each, In}
-use Rattle.tv_lemmas.proofs.OfMembers.{any-in, each_in, in-append, in-flat, in-left, in-map, in-options, in-right, in_each, of-flat, of-options}
+use Rattle.tv_lemmas.proofs.Members.{any-in, each_in, in-append, in-flat, in-left, in-map, in-options, in-right, in_each, of-flat, of-options}
 use Rattle.tv_value.specs.Nested.{leaf, list, no_trees, tree, Place, note, nodes, nodes_below, nodes_from}
 use Rattle.tv_value.specs.Values.{Name, JobName, Value}
 use Rattle.tv_value.specs.Orders.{same_name}
-use Rattle.tv_value.proofs.OfJobNames.{same_job_decides}
+use Rattle.tv_value.proofs.JobNameLemmas.{same_job_decides}
 use Rattle.tv_flow.specs.Flows.{Step}
 use Rattle.tv_strategy.specs.Origins.{Mark, Origin, Known, at_start, by_job, by_level, fixed, from_level}
 use Rattle.tv_strategy.specs.Iterations.{job, passed, Iteration, Iterations}
 use Rattle.tv_strategy.specs.Measures.{strategy_depth}
 use Rattle.tv_strategy.specs.Sources.{AtNodes}
-use Rattle.tv_strategy.proofs.OfSources.{each-append}
-use Rattle.tv_strategy.proofs.OfEach.{each-weaken}
+use Rattle.tv_strategy.proofs.Sources.{each-append}
+use Rattle.tv_strategy.proofs.Each.{each-weaken}
 use Rattle.tv_gate.specs.Outcomes.{Giving}
-use Rattle.tv_instance.specs.Delivered.{Delivered, StepMeaning}
-use Rattle.tv_instance.specs.Ranks.{is_among}
-use Rattle.tv_instance.specs.Steps.{strategy_of, port_mismatch, spot, node_origin, bound_values}
+use Rattle.tv_model.specs.instance.Delivered.{Delivered, StepMeaning}
+use Rattle.tv_model.specs.instance.Ranks.{is_among}
+use Rattle.tv_model.specs.instance.Steps.{strategy_of, port_mismatch, spot, node_origin, bound_values}
 use Rattle.tv_model.specs.Instances.{job_on, node_jobs, step_made, steps_made}
 use Rattle.tv_model.specs.Jobs.{Job, job_needs}
 use Rattle.tv_model.specs.Levels.{Level, level_at, levels}

@@ -9,10 +9,10 @@ use Rattle.tv_strategy.specs.Origins.{input_value, input_values}
 use Rattle.tv_gate.specs.Outcomes.{Giving}
 use Rattle.tv_model.specs.Made.{Meaning, Made}
 use Rattle.tv_model.specs.Instances.{steps_made}
-use Rattle.tv_instance.specs.Ranks.{ranked}
-use Rattle.tv_instance.proofs.OfRanks.{IsOrdered, ranked-ordered}
+use Rattle.tv_model.specs.instance.Ranks.{ranked}
+use Rattle.tv_model.proofs.Ranks.{IsOrdered, ranked-ordered}
 use Rattle.tv_strategy.specs.Sources.{AtNodes, AtAllNodes}
-use Rattle.tv_strategy.proofs.OfEach.{each-all}
+use Rattle.tv_strategy.proofs.Each.{each-all}
 use Rattle.tv_model.proofs.Fed.{each-of_map}
 use Rattle.tv_model.proofs.Earlier.{job_list, NeedEarlier}
 use Rattle.tv_model.proofs.Order.{opened-asks, opened_order, turn_of}

@@ -12,7 +12,7 @@ use Rattle.tv_gate.specs.Outcomes.{Giving}
 use Rattle.tv_dispatch.specs.Jobs.{Ask, outcome_of, Try, ask, open_flow, tries, Fate, right, opens, wrong, Taken, take_tries, match_result}
 use Rattle.tv_model.specs.Jobs.{Job}
 use Rattle.tv_model.specs.Made.{Meaning, Opened}
-use Rattle.tv_instance.specs.Steps.{spot, declared_depths, bound_values}
+use Rattle.tv_model.specs.instance.Steps.{spot, declared_depths, bound_values}
 use Rattle.tv_model.specs.Instances.{bounced_job, tried_job, job_on, node_jobs, with_fate}
 use Rattle.tv_model.specs.Turns.{is_bounced, is_failed}
 use Rattle.tv_model.proofs.Tests.{true≠false}

@@ -7,7 +7,7 @@ use Rattle.std.proofs.lemmas.List.{length-map}
 use Rattle.std.proofs.lemmas.List.Folds.{flat_map-map}
 use Rattle.std.proofs.lemmas.List.Sorted.{IsPermutation-refl, IsPermutation-append_right, IsPermutation-trans}
 use Rattle.tv_lemmas.specs.Members.{Each, In}
-use Rattle.tv_lemmas.proofs.OfMembers.{each_in, in-append, in-left, in-map, in-right, of-map, some_in}
+use Rattle.tv_lemmas.proofs.Members.{each_in, in-append, in-left, in-map, in-right, of-map, some_in}
 use Rattle.tv_lemmas.proofs.Lists.{permute-front}
 use Rattle.tv_value.specs.Values.{JobName}
 use Rattle.tv_value.specs.Orders.{same_job}
@@ -17,7 +17,7 @@ use Rattle.tv_model.specs.Turns.{Turn, ask_order, asks_by_turns, bounced_first, 
 use Rattle.tv_model.specs.Jobs.{job_needs}
 use Rattle.tv_model.proofs.Turns.{HasRate, AllRated, turns-asks}
 use Rattle.tv_model.proofs.Earlier.{job_list, is_name_of, has_job, NeedEarlier}
-use Rattle.tv_strategy.proofs.OfEach.{each-weaken}
+use Rattle.tv_strategy.proofs.Each.{each-weaken}
 
 -- the turn of a job with what stands inside it, and the order of all
 abbrev pub turn_of : Opened → Turn

@@ -11,7 +11,7 @@ use Rattle.tv_gate.specs.Outcomes.{Giving}
 use Rattle.tv_model.specs.Made.{Meaning, Opened}
 use Rattle.tv_model.specs.Turns.{ask_order, asks_of}
 use Rattle.tv_model.specs.Meanings.{jobs_with_inside, instance_meaning, no_meaning, flow_meaning}
-use Rattle.tv_instance.specs.Ranks.{ranked}
+use Rattle.tv_model.specs.instance.Ranks.{ranked}
 use Rattle.tv_model.proofs.Fed.{named_map_or}
 use Rattle.tv_model.proofs.Earlier.{job_list}
 use Rattle.tv_model.proofs.Kept.{InsideIs}
@@ -20,7 +20,7 @@ use Rattle.tv_model.proofs.Order.{turn_of}
 use Rattle.tv_model.proofs.ReadOff.{IsReadOff, flow-read, instance-order}
 use Rattle.tv_model.specs.Asked.{IsOrdered}
 use Rattle.tv_model.proofs.Whole.{AnyNumber}
-use Rattle.tv_strategy.proofs.OfEach.{each-all}
+use Rattle.tv_strategy.proofs.Each.{each-all}
 
 pub flat-permuted : {A B : Type 0} (f g : A → List B) (xs : List A) → ((x : A) → In x xs → IsPermutation (f x) (g x)) → IsPermutation (flat_map f xs) (flat_map g xs)
 flat-permuted f g [] h = IsPermutation-refl []

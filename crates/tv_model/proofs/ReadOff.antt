@@ -5,15 +5,15 @@ use Rattle.std.proofs.Common.{arith, sym, ap, ◌∙◌, inl, inr, append_assoc,
 use Rattle.std.proofs.lemmas.List.{length-map, map-append}
 use Rattle.std.proofs.lemmas.List.Elements.{filter-append}
 use Rattle.tv_lemmas.specs.Members.{In}
-use Rattle.tv_lemmas.proofs.OfMembers.{in-append, of-flat}
+use Rattle.tv_lemmas.proofs.Members.{in-append, of-flat}
 use Rattle.tv_lemmas.proofs.Lists.{filter-map}
 use Rattle.tv_value.specs.Nested.{Place}
 use Rattle.tv_value.specs.Orders.{same_job}
 use Rattle.tv_value.specs.Values.{Name, JobName, Value}
-use Rattle.tv_value.proofs.OfJobNames.{same_job_decides}
+use Rattle.tv_value.proofs.JobNameLemmas.{same_job_decides}
 use Rattle.tv_flow.specs.Flows.{Flow}
 use Rattle.tv_gate.specs.Outcomes.{Giving}
-use Rattle.tv_instance.specs.Ranks.{ranked}
+use Rattle.tv_model.specs.instance.Ranks.{ranked}
 use Rattle.tv_dispatch.specs.Jobs.{Ask}
 use Rattle.tv_model.specs.Instances.{given_of}
 use Rattle.tv_model.specs.Jobs.{Job}
@@ -28,7 +28,7 @@ use Rattle.tv_model.proofs.Kept.{InsideIs}
 use Rattle.tv_model.proofs.Formed.{AreFormed, own-apart}
 use Rattle.tv_model.proofs.Instances.{given-free, instance-formed, steps_of}
 use Rattle.tv_model.proofs.Whole.{AnyNumber, not-longer, same-head}
-use Rattle.tv_strategy.proofs.OfEach.{each-all}
+use Rattle.tv_strategy.proofs.Each.{each-all}
 
 -- ---- lists
 

@@ -12,12 +12,12 @@ use Rattle.tv_strategy.specs.Origins.{Origin, Traced, plain}
 use Rattle.tv_gate.specs.Outcomes.{Outcome, good, bad, Giving}
 use Rattle.tv_dispatch.specs.Jobs.{value_complaint, or_else, first_complaint, ok_unless, judged, Ask, outcome_of, Try, ask, open_flow, tries, Fate, right, opens, wrong, Taken, take_tries, match_result, error_results}
 use Rattle.tv_model.specs.Made.{Meaning, Opened}
-use Rattle.tv_instance.specs.Steps.{declared_depths}
+use Rattle.tv_model.specs.instance.Steps.{declared_depths}
 use Rattle.tv_model.specs.Instances.{zip_names, with_fate, bounced_job, tried_job, job_on}
 use Rattle.tv_model.specs.Agreeing.{FindThemselves, InputsHave, ActivityAgrees, ActivitiesAgree, ActivitiesNest, NestsWithin, output_depths}
-use Rattle.tv_value.proofs.OfDepths.{test-decides}
-use Rattle.tv_strategy.proofs.OfSources.{each-append}
-use Rattle.tv_strategy.proofs.OfEach.{each-all}
+use Rattle.tv_value.proofs.DepthLemmas.{test-decides}
+use Rattle.tv_strategy.proofs.Sources.{each-append}
+use Rattle.tv_strategy.proofs.Each.{each-all}
 use Rattle.tv_model.proofs.Fed.{either, each-of_map}
 use Rattle.tv_model.proofs.Binds.{HaveTheseDepths}
 

@@ -11,10 +11,10 @@ use Rattle.tv_strategy.specs.Origins.{Mark, Origin, at_start, from_job, from_lev
 use Rattle.tv_strategy.specs.Iterations.{Binding, End, job, passed, Iteration, Iterations}
 use Rattle.tv_strategy.specs.Outputs.{output_below, outputs_from, end_output}
 use Rattle.tv_strategy.specs.Sources.{AtNodes, AtAllNodes, SourcesHave, AllSourcesHave}
-use Rattle.tv_strategy.proofs.OfSources.{each-append, traced-have}
-use Rattle.tv_instance.specs.Delivered.{StepMeaning}
-use Rattle.tv_instance.specs.Ranks.{is_among}
-use Rattle.tv_instance.specs.Steps.{spot}
+use Rattle.tv_strategy.proofs.Sources.{each-append, traced-have}
+use Rattle.tv_model.specs.instance.Delivered.{StepMeaning}
+use Rattle.tv_model.specs.instance.Ranks.{is_among}
+use Rattle.tv_model.specs.instance.Steps.{spot}
 use Rattle.tv_model.specs.Levels.{Level, level_at}
 use Rattle.tv_model.specs.Made.{Made}
 

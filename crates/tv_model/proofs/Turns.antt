@@ -12,7 +12,7 @@ use Rattle.tv_model.proofs.Tests.{true≠false, both_true, or_right}
 pub use Rattle.std.proofs.lemmas.Bool.{or_left}
 use Rattle.tv_lemmas.specs.Members.{Each, In}
 use Rattle.tv_lemmas.proofs.Lists.{permute-front}
-use Rattle.tv_strategy.proofs.OfEach.{each-weaken}
+use Rattle.tv_strategy.proofs.Each.{each-weaken}
 
 abbrev pub turn_asks : List Turn → List (JobName × Ask)
 turn_asks ts = flat_map (λ t. t.asks) ts

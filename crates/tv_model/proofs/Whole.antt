@@ -4,19 +4,19 @@ use Rattle.std.specs.List.{list_all}
 use Rattle.std.specs.Option.{option_map_or}
 use Rattle.std.proofs.Common.{sym, ap, subst, ◌∙◌, inl, inr, append_assoc, append-nil}
 use Rattle.tv_lemmas.specs.Members.{Each, In}
-use Rattle.tv_lemmas.proofs.OfMembers.{each_in, in-append, in-flat, in-left, in-right, of-flat, of-map, each-filter}
+use Rattle.tv_lemmas.proofs.Members.{each_in, in-append, in-flat, in-left, in-right, of-flat, of-map, each-filter}
 use Rattle.tv_value.specs.Nested.{Place, nodes}
 use Rattle.tv_value.specs.Values.{Name, JobName, Value}
 use Rattle.tv_value.specs.Orders.{same_name}
 use Rattle.tv_flow.specs.Flows.{Step, Flow}
 use Rattle.tv_strategy.specs.Origins.{Origin, by_job}
-use Rattle.tv_strategy.proofs.OfEach.{each-weaken}
+use Rattle.tv_strategy.proofs.Each.{each-weaken}
 use Rattle.tv_gate.specs.Outcomes.{Giving}
 use Rattle.tv_model.specs.Jobs.{Job}
-use Rattle.tv_instance.specs.Delivered.{StepMeaning}
+use Rattle.tv_model.specs.instance.Delivered.{StepMeaning}
 use Rattle.tv_model.specs.Made.{Meaning, Opened, Made}
 use Rattle.tv_model.specs.Meanings.{jobs_with_inside, steps_inside, instance_meaning, no_meaning, flow_meaning}
-use Rattle.tv_instance.specs.Ranks.{ranked, by_rank, is_among, earlier_steps}
+use Rattle.tv_model.specs.instance.Ranks.{ranked, by_rank, is_among, earlier_steps}
 use Rattle.tv_model.specs.Turns.{is_bounced, is_failed}
 use Rattle.tv_model.specs.Levels.{Level, level_at, levels}
 use Rattle.tv_model.proofs.Tests.{true≠false}

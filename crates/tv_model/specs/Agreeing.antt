@@ -8,10 +8,10 @@ use Rattle.tv_value.specs.Strategies.{port}
 use Rattle.tv_value.specs.Values.{HasDepth, Name, Value}
 use Rattle.tv_flow.specs.Flows.{Document, Feed, Flow, Step, StepInput, constant, link, merge}
 use Rattle.tv_strategy.specs.Measures.{DotsAgree, leaf_names}
-use Rattle.tv_instance.specs.Ranks.{ranked}
-use Rattle.tv_instance.specs.Steps.{declared_depths, strategy_of}
+use Rattle.tv_model.specs.instance.Ranks.{ranked}
+use Rattle.tv_model.specs.instance.Steps.{declared_depths, strategy_of}
 use Rattle.tv_model.specs.Meanings.{nesting_limit}
-pub use Rattle.tv_instance.specs.CheckedDepths.{StepDepths, link_depth, merged_depth, constant_depth, feed_depth, port_depth, step_depths, steps_depths, flow_depths, output_depths}
+pub use Rattle.tv_model.specs.instance.CheckedDepths.{StepDepths, link_depth, merged_depth, constant_depth, feed_depth, port_depth, step_depths, steps_depths, flow_depths, output_depths}
 
 abbrev pub AllAre : ℕ → List ℕ → Type 0
 AllAre d [] = Unit {0}

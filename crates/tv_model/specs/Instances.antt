@@ -10,8 +10,8 @@ use Rattle.tv_strategy.specs.Iterations.{Iteration, iteration, job, passed}
 use Rattle.tv_strategy.specs.Measures.{strategy_depth}
 use Rattle.tv_strategy.specs.Origins.{Origin, Traced, input_value, plain}
 use Rattle.tv_dispatch.specs.Jobs.{Fate, error_results, fault_makers, opens, right, take_tries, tries, wrong}
-use Rattle.tv_instance.specs.Delivered.{Delivered, at_port}
-use Rattle.tv_instance.specs.Steps.{bound_values, declared_depths, node_origin, port_iteration, port_mismatch, spot, strategy_of}
+use Rattle.tv_model.specs.instance.Delivered.{Delivered, at_port}
+use Rattle.tv_model.specs.instance.Steps.{bound_values, declared_depths, node_origin, port_iteration, port_mismatch, spot, strategy_of}
 use Rattle.tv_model.specs.Jobs.{Job, bounced_end, failed_end, good_end}
 use Rattle.tv_model.specs.Made.{Made, Meaning, Opened, delivered_outputs, endings, feed_value}
 

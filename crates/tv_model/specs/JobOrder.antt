@@ -7,7 +7,7 @@ use Rattle.tv_value.specs.Nested.{Place}
 use Rattle.tv_value.specs.Orders.{named, same_name}
 use Rattle.tv_value.specs.Values.{JobName, Name}
 use Rattle.tv_flow.specs.Flows.{Flow, Step}
-use Rattle.tv_instance.specs.Ranks.{ranked}
+use Rattle.tv_model.specs.instance.Ranks.{ranked}
 use Rattle.tv_model.specs.Opening.{first_nested}
 
 -- index by index, a prefix before its extensions

@@ -4,8 +4,8 @@ use Rattle.tv_value.specs.Nested.{Place, count, leaf, list, nodes}
 use Rattle.tv_value.specs.Values.{JobName}
 use Rattle.tv_strategy.specs.Iterations.{Iteration, job, passed}
 use Rattle.tv_strategy.specs.Origins.{Origin}
-use Rattle.tv_instance.specs.Delivered.{StepMeaning}
-use Rattle.tv_instance.specs.Steps.{spot}
+use Rattle.tv_model.specs.instance.Delivered.{StepMeaning}
+use Rattle.tv_model.specs.instance.Steps.{spot}
 
 -- a list or passed fault of an iteration: its sources, and a list's length
 pub record Level : Type 0 where

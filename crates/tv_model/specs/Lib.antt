@@ -22,3 +22,4 @@ pub mod RowsOfSize
 pub mod JobOrder
 pub mod Opening
 pub mod records
+pub mod instance

@@ -7,8 +7,8 @@ use Rattle.tv_value.specs.Values.{JobName, Name, Value}
 use Rattle.tv_flow.specs.Flows.{Feed, Flow, Link}
 use Rattle.tv_strategy.specs.Iterations.{Iteration}
 use Rattle.tv_strategy.specs.Origins.{Origin, Traced}
-use Rattle.tv_instance.specs.Delivered.{Delivered, StepMeaning, feed_delivers, link_delivers}
-use Rattle.tv_instance.specs.Steps.{endings_of, outputs_delivered}
+use Rattle.tv_model.specs.instance.Delivered.{Delivered, StepMeaning, feed_delivers, link_delivers}
+use Rattle.tv_model.specs.instance.Steps.{endings_of, outputs_delivered}
 use Rattle.tv_model.specs.Jobs.{Job}
 
 -- an instance of a flow: its name, what it was given, and what it gives

@@ -5,9 +5,9 @@ use Rattle.tv_value.specs.Orders.{named}
 use Rattle.tv_value.specs.Values.{JobName, Name, Value}
 use Rattle.tv_gate.specs.Outcomes.{Giving}
 use Rattle.tv_flow.specs.Flows.{Document, Flow}
-pub use Rattle.tv_instance.specs.Nesting.{nesting_limit}
-use Rattle.tv_instance.specs.Delivered.{StepMeaning}
-use Rattle.tv_instance.specs.Ranks.{ranked}
+pub use Rattle.tv_model.specs.instance.Nesting.{nesting_limit}
+use Rattle.tv_model.specs.instance.Delivered.{StepMeaning}
+use Rattle.tv_model.specs.instance.Ranks.{ranked}
 use Rattle.tv_model.specs.Instances.{given_of, steps_made}
 use Rattle.tv_model.specs.Jobs.{Job}
 use Rattle.tv_model.specs.Made.{Instance, Meaning, Opened, feed_value}

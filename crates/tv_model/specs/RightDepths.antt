@@ -3,7 +3,7 @@ use Rattle.std.specs.Prelude.{List, [], ℕ, ◌∷◌}
 use Rattle.tv_lemmas.specs.Members.{Each}
 use Rattle.tv_value.specs.Nested.{Tree}
 use Rattle.tv_value.specs.Values.{HasDepth, Name, Scalar}
-use Rattle.tv_instance.specs.Delivered.{Delivered}
+use Rattle.tv_model.specs.instance.Delivered.{Delivered}
 
 -- values and their depths, one by one
 abbrev pub HaveTheseDepths : {N : Type 0} → List ℕ → List (Tree N Scalar) → Type 0

@@ -3,7 +3,7 @@ use Rattle.std.specs.Prelude.{List, [], count_by, length, sum_by, ℕ, ◌≡◌
 use Rattle.tv_value.specs.Values.{JobName, Name, Value}
 use Rattle.tv_gate.specs.Outcomes.{Giving}
 use Rattle.tv_flow.specs.Flows.{Flow}
-use Rattle.tv_instance.specs.Ranks.{ranked}
+use Rattle.tv_model.specs.instance.Ranks.{ranked}
 use Rattle.tv_model.specs.Asked.{IsOrdered}
 use Rattle.tv_model.specs.Earlier.{NeedEarlier}
 use Rattle.tv_model.specs.Instances.{given_of, steps_made}

@@ -13,7 +13,7 @@ use Rattle.tv_lemmas.proofs.Numbers.{none-below}
 use Rattle.tv_lemmas.proofs.Orderings.{is_lt-less}
 use Rattle.tv_value.specs.Values.{Name}
 use Rattle.tv_value.specs.Orders.{name_cmp, same_name, named}
-use Rattle.tv_value.proofs.OfNames.{same_name-is, same_name-refl}
+use Rattle.tv_value.proofs.NameLemmas.{same_name-is, same_name-refl}
 use Rattle.tv_flow.specs.Formed.{is_ascending}
 use Rattle.tv_naming.specs.Naming.{has_name}
 use Rattle.tv_naming.specs.Numbers.{number_in, position}

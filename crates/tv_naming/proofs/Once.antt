@@ -8,7 +8,7 @@ use Rattle.tv_value.specs.Values.{Name}
 use Rattle.tv_value.specs.Orders.{same_name}
 use Rattle.tv_value.specs.Strategies.{Strategy}
 use Rattle.tv_value.specs.Views.{strategies_of}
-use Rattle.tv_value.proofs.OfTrees.{strategies_of-drop, strategies_of-end}
+use Rattle.tv_value.proofs.TreeLemmas.{strategies_of-drop, strategies_of-end}
 use Rattle.tv_naming.specs.Naming.{are_the_same}
 use Rattle.tv_strategy.specs.Measures.{leaf_names, all_leaf_names}
 

@@ -5,3 +5,4 @@ pub mod Inputs
 pub mod Naming
 pub mod Numbers
 pub mod Told
+pub mod graphs

@@ -9,11 +9,13 @@
 //! - `lookup`, `things`: names looked up in lists that are in byte order
 //! - `naming` with `links` and `ports`: the pass on names
 //! - `given`: the pass on the values given
+//! - `graphs` (`specs/graphs/`): numbered graphs: an order, the first cycle, heights
 #![tactic(auto)]
 
 mod at;
 mod faults;
 mod given;
+pub mod graphs;
 mod links;
 mod lookup;
 mod naming;
@@ -24,5 +26,6 @@ mod things;
 pub use at::At;
 pub use faults::{CheckFault, CheckKind, CheckRefused, Spot};
 pub use given::given_fault;
+pub use graphs::{Graph, NoMemory, by_least, first_on_cycle, heights, is_graph};
 pub use lookup::number_of;
 pub use naming::naming_fault;

@@ -13,7 +13,7 @@ use Rattle.tv_value.specs.declared.value.Value.TheVariants as plain
 use Rattle.tv_value.specs.declared.value.Value.TheViews as held
 use Rattle.tv_value.specs.declared.value.Value.TheFolds.{fold-roll-Value}
 use Rattle.tv_value.specs.declared.value.Value.TheOpen.{Value-F}
-use Rattle.tv_value.proofs.OfItems.{items-trees_of}
+use Rattle.tv_value.proofs.ItemLemmas.{items-trees_of}
 use Rattle.tv_parts.specs.Partials.{Partial, wanting, item, growing, closed, Parts, no_parts, part, part_count, part_of, part_at, whole, all_whole}
 use Rattle.tv_parts.specs.Below.{value_in, values_in}
 use Rattle.tv_stream.specs.declared.held.PartKind.TheVariants.{Closed}
@@ -24,13 +24,13 @@ use Rattle.tv_cell.specs.declared.piece.Piece.{Piece}
 use Rattle.tv_cell.specs.PieceValues.{piece_value}
 use Rattle.tv_value.specs.Sameness.{same_value}
 use Rattle.tv_cell.specs.Sameness.{is_at}
-use Rattle.tv_cell.proofs.OfPieces.{list-view}
-use Rattle.tv_value.proofs.OfSameness.{test-decides}
+use Rattle.tv_cell.proofs.PieceLemmas.{list-view}
+use Rattle.tv_value.proofs.Sameness.{test-decides}
 use Rattle.tv_outputs.specs.Known.{item_value, value_tree}
 use Rattle.tv_outputs.specs.FoundIn.{found_in}
 use Rattle.tv_outputs.specs.PartValues.{part_values, list_values, AreParts}
 use Rattle.tv_outputs.proofs.Building.{Closes, closes-whole, value-there, values-count, values-listed}
-use Rattle.tv_outputs.proofs.OfPieces.{inside-found, part-found, whole-kinds}
+use Rattle.tv_outputs.proofs.PieceLemmas.{inside-found, part-found, whole-kinds}
 
 -- ---- answers
 

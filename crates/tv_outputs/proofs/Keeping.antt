@@ -8,8 +8,8 @@ use Rattle.tv_value.specs.Values.{Value}
 use Rattle.tv_parts.specs.Partials.{Partial, wanting}
 use Rattle.tv_pool.specs.Pool.{item_in, region_of, slot_of, number_of}
 use Rattle.tv_pool.specs.declared.handles.Region.{Region}
-use Rattle.tv_nodes.specs.Calls.{count_in}
-use Rattle.tv_nodes.specs.Stands.{Spot}
+use Rattle.tv_stream.specs.nodes.Calls.{count_in}
+use Rattle.tv_stream.specs.nodes.Stands.{Spot}
 use Rattle.tv_stream.specs.declared.partial.Partial.{Partial as Handle}
 use Rattle.tv_stream.specs.Trees.{tree_at, tree_of}
 use Rattle.tv_stream.specs.Stands.{Grows, Starts, Apart, Stays}

@@ -8,11 +8,11 @@ pub mod Ones
 pub mod Looks
 pub mod Counts
 pub mod Building
-pub mod OfPieces
+pub mod PieceLemmas
 pub mod Comparing
 pub mod Seeing
 pub mod Counting
 pub mod Flattened
 pub mod Slots
 pub mod Places
-pub mod OfValues
+pub mod ValueLemmas

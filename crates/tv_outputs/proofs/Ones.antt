@@ -9,7 +9,7 @@ use Rattle.tv_parts.specs.Partials.{Partial}
 use Rattle.tv_parts.specs.Changes.{arrive, close_at, CanArrive, CanClose}
 use Rattle.tv_pool.specs.Pool.{number_of}
 use Rattle.tv_pool.specs.declared.handles.Region.{Region}
-use Rattle.tv_nodes.specs.Calls.{count_in}
+use Rattle.tv_stream.specs.nodes.Calls.{count_in}
 use Rattle.tv_stream.specs.declared.partial.Partial.{Partial as Handle}
 use Rattle.tv_stream.specs.Trees.{tree_of}
 use Rattle.tv_stream.specs.Stands.{Stands, KeepsTrees}

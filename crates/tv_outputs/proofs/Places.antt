@@ -11,8 +11,8 @@ use Rattle.tv_value.specs.Values.{Value}
 use Rattle.tv_parts.specs.Partials.{known_at, wanting}
 use Rattle.tv_pool.specs.Pool.{Stored, lying_in, number_of, region_at, slot_of, stored_in}
 use Rattle.tv_pool.specs.declared.handles.Region.{Region}
-use Rattle.tv_nodes.specs.declared.nodes.Entry.{Entry}
-use Rattle.tv_nodes.specs.Stands.{Spot}
+use Rattle.tv_stream.specs.declared.nodes.Entry.{Entry}
+use Rattle.tv_stream.specs.nodes.Stands.{Spot}
 use Rattle.tv_stream.specs.declared.held.Held.{Held}
 use Rattle.tv_stream.specs.declared.partial.Partial.{Partial as Handle}
 use Rattle.tv_stream.specs.Trees.{memory_of, tree_of}

@@ -8,10 +8,10 @@ use Rattle.std.proofs.lemmas.Option.{none-some}
 use Rattle.tv_value.specs.Nested.{Place}
 use Rattle.tv_parts.specs.Partials.{known_at, part_at, wanting}
 use Rattle.tv_pool.specs.Pool.{Stored, lying_in}
-use Rattle.tv_nodes.specs.declared.nodes.Entry.{Entry}
-use Rattle.tv_nodes.specs.Nodes.{part_in}
-use Rattle.tv_nodes.specs.Stands.{AreNodes, Spot}
-use Rattle.tv_nodes.proofs.Ways.{part-spot}
+use Rattle.tv_stream.specs.declared.nodes.Entry.{Entry}
+use Rattle.tv_stream.specs.nodes.Nodes.{part_in}
+use Rattle.tv_stream.specs.nodes.Stands.{AreNodes, Spot}
+use Rattle.tv_stream.proofs.NodeWays.{part-spot}
 use Rattle.tv_stream.specs.declared.held.Held.{Held}
 use Rattle.tv_stream.specs.declared.held.Part.{Part}
 use Rattle.tv_stream.specs.declared.held.Part.TheVariants.{Item, Numbered, Wanting}

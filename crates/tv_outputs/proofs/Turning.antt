@@ -7,7 +7,7 @@ use Rattle.tv_parts.specs.Partials.{Partial}
 use Rattle.tv_parts.specs.Changes.{arrive, close_at, CanArrive, CanClose}
 use Rattle.tv_pool.specs.Pool.{IsLive, number_of}
 use Rattle.tv_pool.specs.declared.handles.Region.{Region}
-use Rattle.tv_nodes.specs.Calls.{KeepsRegions}
+use Rattle.tv_stream.specs.nodes.Calls.{KeepsRegions}
 use Rattle.tv_stream.specs.declared.partial.Partial.{Partial as Handle}
 use Rattle.tv_cell.specs.declared.piece.Piece.{Piece}
 use Rattle.tv_cell.specs.PieceValues.{piece_value}

@@ -4,8 +4,8 @@ use Rattle.tv_value.specs.Values.{holds_fault}
 use Rattle.tv_parts.specs.Partials.{Partial, wanting, item, growing, closed, Parts, no_parts, part}
 use Rattle.tv_pool.specs.Pool.{number_of}
 use Rattle.tv_pool.specs.declared.handles.Region.{Region}
-use Rattle.tv_nodes.specs.Calls.{count_in}
-use Rattle.tv_nodes.specs.Stands.{Spot}
+use Rattle.tv_stream.specs.nodes.Calls.{count_in}
+use Rattle.tv_stream.specs.nodes.Stands.{Spot}
 use Rattle.tv_stream.specs.declared.partial.Partial.{Partial as Handle}
 use Rattle.tv_stream.specs.Trees.{Marked, tree_of}
 use Rattle.tv_stream.specs.Stands.{StandsOn, IsIn, Apart}

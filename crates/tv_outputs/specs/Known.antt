@@ -3,7 +3,7 @@ use Rattle.std.specs.Prelude.{ℕ, zero, suc, ◌+◌, List, [], ◌∷◌, map,
 use Rattle.tv_value.specs.Values.{Value}
 use Rattle.tv_parts.specs.Partials.{Partial, wanting, map_partial}
 use Rattle.tv_pool.specs.Pool.{Pool}
-use Rattle.tv_nodes.specs.declared.nodes.Entry.{Entry}
+use Rattle.tv_stream.specs.declared.nodes.Entry.{Entry}
 use Rattle.tv_stream.specs.declared.held.Held.{Held}
 use Rattle.tv_stream.specs.declared.partial.Partial.{Partial as Handle}
 use Rattle.tv_stream.specs.Trees.{Marked, tree_of}

@@ -3,7 +3,7 @@ ghost use Rattle.std.specs.Prelude.{◌≡◌, ◌≤◌, ◌<◌, ◌+◌, leng
 ghost use Rattle.tv_value.specs.Values.{holds_fault};
 ghost use Rattle.tv_parts.specs.Changes.{arrive as arrived, close_at, CanArrive, CanClose};
 ghost use Rattle.tv_pool.specs.Pool.{IsLive, number_of};
-ghost use Rattle.tv_nodes.specs.Calls.{KeepsRegions, count_in};
+ghost use Rattle.tv_stream.specs.nodes.Calls.{KeepsRegions, count_in};
 ghost use Rattle.tv_stream.specs.Trees.{tree_of};
 ghost use Rattle.tv_stream.specs.Stands.{Stands, IsIn, KeepsTrees};
 ghost use Rattle.tv_stream.specs.Answers.{marked_item};

@@ -7,7 +7,7 @@ ghost use Rattle.tv_parts.specs.Below.{value_in};
 ghost use Rattle.tv_parts.specs.Changes.{arrive as arrived, close_at, CanArrive, CanClose};
 ghost use Rattle.tv_pool.specs.Pool.{IsLive, number_of};
 ghost use Rattle.tv_pool.specs.declared.handles.Region.{Region as InRegion};
-ghost use Rattle.tv_nodes.specs.Calls.{KeepsRegions, count_in};
+ghost use Rattle.tv_stream.specs.nodes.Calls.{KeepsRegions, count_in};
 ghost use Rattle.tv_stream.specs.Trees.{least_whole};
 ghost use Rattle.tv_cell.specs.declared.piece.Piece.{Piece as APiece};
 ghost use Rattle.tv_cell.specs.PieceValues.{piece_value, piece_values};

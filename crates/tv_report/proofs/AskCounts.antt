@@ -6,7 +6,7 @@ use Rattle.std.proofs.lemmas.List.{append-nil, length-take, take_more}
 use Rattle.std.proofs.lemmas.List.Elements.{filter_map-append}
 use Rattle.std.proofs.lemmas.List.Sums.{count_by-le-length}
 use Rattle.indexmap.specs.IndexMap.{insert_entry}
-use Rattle.tv_entries.specs.declared.entry.Entry.{Entry}
+use Rattle.tv_history.specs.declared.entry.Entry.{Entry}
 use Rattle.tv_report.specs.AskCounts.{accepted_number, count_at, counted}
 use Rattle.tv_report.specs.TraceLines.{tallied}
 use Rattle.tv_report.proofs.Tallied.{tallied-at, tallied-more}

@@ -1,7 +1,7 @@
 pub mod Plain
 pub mod Growing
-pub mod OfTokens
-pub mod OfPlans
+pub mod Tokens
+pub mod Plans
 pub mod Tallied
 pub mod AskCounts
 pub mod NamedLines

@@ -15,10 +15,10 @@ use Rattle.tv_flow.specs.Flows.{Document}
 use Rattle.tv_history.specs.Entries as history
 use Rattle.tv_history.specs.Tries.{NamedTry, all_tries, entry_try}
 use Rattle.tv_history.proofs.Tests.{same-itself}
-use Rattle.tv_entries.specs.Runs.{IsLegalRun, Run, all_distinct, all_have_numbers, has_numbers, instances_of, has_job_name, name_at, opened_number, with_names}
-use Rattle.tv_entries.proofs.OfNames.{same_job-turned}
-use Rattle.tv_entries.specs.declared.entry.Entry.{Entry}
-use Rattle.tv_entries.specs.declared.entry.Entry.TheVariants as entry
+use Rattle.tv_history.specs.Runs.{IsLegalRun, Run, all_distinct, all_have_numbers, has_numbers, instances_of, has_job_name, name_at, opened_number, with_names}
+use Rattle.tv_history.proofs.Names.{same_job-turned}
+use Rattle.tv_history.specs.declared.entry.Entry.{Entry}
+use Rattle.tv_history.specs.declared.entry.Entry.TheVariants as entry
 use Rattle.tv_report.specs.AskCounts.{accepted_number, numbered_line}
 use Rattle.tv_report.specs.TraceLines.{accepted_jobs, tallied, trace_line, trace_text}
 use Rattle.tv_report.proofs.Tallied.{tallied-below, tallied-named}

@@ -4,8 +4,8 @@ use Rattle.std.specs.Map.{lookup}
 use Rattle.std.specs.Option.{option_map_or}
 use Rattle.indexmap.specs.IndexMap.{insert_entry}
 use Rattle.tv_value.specs.Values.{JobName, Text}
-use Rattle.tv_entries.specs.declared.entry.Entry.{Entry}
-use Rattle.tv_entries.specs.declared.entry.Entry.TheVariants as entry
+use Rattle.tv_history.specs.declared.entry.Entry.{Entry}
+use Rattle.tv_history.specs.declared.entry.Entry.TheVariants as entry
 use Rattle.tv_report.specs.TraceLines.{trace_line}
 
 -- the number of the job whose outcome was accepted

@@ -4,7 +4,7 @@ use Rattle.tv_value.specs.Orders.{same_job}
 use Rattle.tv_value.specs.Printed.{job_text}
 use Rattle.tv_value.specs.Values.{JobName, Text}
 use Rattle.tv_history.specs.Tries.{all_tries}
-use Rattle.tv_entries.specs.Runs.{Run, past_of}
+use Rattle.tv_history.specs.Runs.{Run, past_of}
 
 -- each once, in the order in which they first come, with how often it comes
 abbrev pub tallied : {A : Type 0} → (A → A → Bool) → List A → List (A × ℕ)

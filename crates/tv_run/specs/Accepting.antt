@@ -1,6 +1,6 @@
 -- How an outcome of a try that is out is accepted: its job goes on, or is settled with what it gives.
 use Rattle.tv_seats.specs.Stages.{is_out}
-use Rattle.tv_framing.specs.Views.{View}
+use Rattle.tv_instances.specs.FramingViews.{View}
 use Rattle.tv_run.specs.Changes.{ChangesTo, IsOpenHere}
 use Rattle.std.specs.Prelude.{Bool, Err, List, Some, map, option_map, suc, true, false, ℕ, ◌∷◌, ◌≡◌, ◌+◌, ◌<◌, [], length, slice_get, vec_capacity, ◌≤◌}
 use Rattle.tv_value.specs.Values.{Text, Value}
@@ -14,20 +14,20 @@ use Rattle.tv_history.specs.Entries.{accepted}
 use Rattle.tv_history.specs.Histories.{is_legal_after, is_settled}
 use Rattle.tv_seats.specs.Seats.{Seat, back_room, room_at}
 use Rattle.tv_seats.specs.declared.stage.Stage.TheVariants as stage
-use Rattle.tv_entries.specs.Answers.{Question}
-use Rattle.tv_forest.specs.Forest.{Instance, Instances}
+use Rattle.tv_history.specs.Answers.{Question}
+use Rattle.tv_instances.specs.Forest.{Instance, Instances}
 use Rattle.tv_run.specs.Jobs.{step_of}
 use Rattle.tv_run.specs.Walking.{IsNumber}
-use Rattle.tv_entries.specs.Runs.{Run, meant, past_of}
-use Rattle.tv_entries.specs.Calls.{IsOther, IsTask}
+use Rattle.tv_history.specs.Runs.{Run, meant, past_of}
+use Rattle.tv_history.specs.Calls.{IsOther, IsTask}
 use Rattle.tv_run.specs.Looks.{tries_of}
 use Rattle.tv_run.specs.Standing.{Stands, run_of, names_of}
 use Rattle.tv_run.specs.Turns.{GoesTo}
-use Rattle.tv_entries.specs.declared.entry.Entry.{Entry}
-use Rattle.tv_open.specs.declared.open.Open.{Open}
+use Rattle.tv_history.specs.declared.entry.Entry.{Entry}
+use Rattle.tv_instances.specs.declared.open.Open.{Open}
 use Rattle.tv_run.specs.declared.instances.Instance as code
 use Rattle.tv_run.specs.declared.run.OpenRun.{OpenRun}
-use Rattle.tv_entries.specs.declared.ticket.Ticket.{Ticket}
+use Rattle.tv_history.specs.declared.ticket.Ticket.{Ticket}
 
 -- it is what the try asks, or it isn't
 abbrev pub IsAnswerTo : Giving → Run → Question → Bool → Type 0

@@ -5,22 +5,22 @@ use Rattle.tv_flow.specs.Flows.{Document, Flow, Step}
 use Rattle.tv_flow.specs.Views.{flow_view}
 use Rattle.tv_check.specs.RunViews.{run_view}
 use Rattle.tv_check.specs.declared.plans.FlowPlan.{FlowPlan}
-use Rattle.tv_instance.specs.Events.{Event, is_taken, took}
-use Rattle.tv_framing.specs.Answers.{IsReadyJob}
-use Rattle.tv_framing.specs.Views.{View}
+use Rattle.tv_model.specs.instance.Events.{Event, is_taken, took}
+use Rattle.tv_instances.specs.Answers.{IsReadyJob}
+use Rattle.tv_instances.specs.FramingViews.{View}
 use Rattle.tv_frame.specs.Calls.{CanStart}
 use Rattle.tv_frame.specs.Tables.{levels_in}
-use Rattle.tv_beside.specs.Beside.{SameRegion}
+use Rattle.tv_frame_laws.specs.Beside.{SameRegion}
 use Rattle.tv_seats.specs.Seats.{Seat, room_at, step_at, with_stage}
 use Rattle.tv_seats.specs.Stages.{is_nested, is_out, is_waiting}
 use Rattle.tv_seats.specs.declared.stage.Stage.{Stage}
-use Rattle.tv_forest.specs.seats.GoingOn.{GoesOn, IsNew}
-use Rattle.tv_forest.specs.seats.Seated.{spot_of}
-use Rattle.tv_forest.specs.Entries.{with_view, with_instance}
-use Rattle.tv_forest.specs.Forest.{Instance, Instances, IsAt}
-use Rattle.tv_open.specs.Events.{IsReadyToGive, IsReadyToSettleAt}
-use Rattle.tv_open.specs.declared.events.Spot.{Spot}
-use Rattle.tv_open.specs.declared.open.Open.{Open}
+use Rattle.tv_instances.specs.seats.GoingOn.{GoesOn, IsNew}
+use Rattle.tv_instances.specs.seats.Seated.{spot_of}
+use Rattle.tv_instances.specs.Entries.{with_view, with_instance}
+use Rattle.tv_instances.specs.Forest.{Instance, Instances, IsAt}
+use Rattle.tv_instances.specs.Events.{IsReadyToGive, IsReadyToSettleAt}
+use Rattle.tv_instances.specs.declared.events.Spot.{Spot}
+use Rattle.tv_instances.specs.declared.open.Open.{Open}
 use Rattle.tv_run.specs.Following.{OthersAreSame}
 use Rattle.tv_run.specs.Looks.{IsFlow}
 use Rattle.tv_run.specs.Rooms.{HasRoomIn}

@@ -4,8 +4,8 @@ use Rattle.tv_value.specs.Orders.{named}
 use Rattle.tv_gate.specs.Outcomes.{Giving}
 use Rattle.tv_flow.specs.Flows.{Document, Flow}
 use Rattle.tv_model.specs.Meanings.{meaning}
-use Rattle.tv_levels.specs.Levels.{AreLevels, Level}
-use Rattle.tv_levels.specs.MainSteps.{main_steps}
+use Rattle.tv_frame.specs.Levels.{AreLevels, Level}
+use Rattle.tv_frame.specs.MainSteps.{main_steps}
 
 -- these are all of them
 abbrev pub AreMainLevels : Giving → Document → List Level → Type 0

@@ -3,7 +3,7 @@ use Rattle.std.specs.List.{range_with_len}
 use Rattle.std.specs.Prelude.{List, Option, Some, [], if◌then◌else◌, length, map, slice_get, true, vec_capacity, ℕ, ◌+◌, ◌++◌, ◌-◌, ◌<◌, ◌∷◌, ◌≡◌, ◌≤◌}
 use Rattle.std.specs.Prelude.{Vec}
 use Rattle.std.specs.Global.{Global}
-use Rattle.tv_open.specs.declared.open.Open.{Open}
+use Rattle.tv_instances.specs.declared.open.Open.{Open}
 use Rattle.tv_run.specs.declared.instances.Instance as code
 use Rattle.tv_run.specs.declared.instances.Numbered.{Numbered}
 use Rattle.tv_run.specs.declared.run.OpenRun.{OpenRun}

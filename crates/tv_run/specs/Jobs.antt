@@ -7,7 +7,7 @@ use Rattle.tv_check.specs.RunViews.{run_view}
 use Rattle.tv_seats.specs.Seats.{Seat}
 use Rattle.tv_seats.specs.declared.stage.Stage.{Stage}
 use Rattle.tv_seats.specs.declared.stage.Stage.TheVariants as stage
-use Rattle.tv_open.specs.declared.open.Open.{Open}
+use Rattle.tv_instances.specs.declared.open.Open.{Open}
 use Rattle.tv_run.specs.Standing.{numbers_of, seats_of, steps_of}
 use Rattle.tv_run.specs.declared.instances.Instance as code
 use Rattle.tv_run.specs.declared.instances.Numbered.{Numbered}

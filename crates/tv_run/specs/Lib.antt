@@ -12,3 +12,13 @@ pub mod Settlements
 pub mod Slots
 pub mod Accepting
 pub mod Tracing
+pub mod Inner
+pub use Rattle.tv_instances.specs.Standing as InstancesStanding
+pub use Rattle.tv_frame.specs.Tables
+pub use Rattle.tv_frame.specs.Kept
+pub use Rattle.tv_instances.specs.FramingViews
+pub use Rattle.tv_instances.specs.Forest
+pub use Rattle.tv_instances.specs.views
+pub use Rattle.tv_instances.specs.seats
+pub use Rattle.tv_frame_laws.specs.Theirs
+pub use Rattle.tv_frame_laws.specs.nodes

@@ -2,9 +2,9 @@
 use Rattle.std.specs.List.{sum_by}
 use Rattle.std.specs.Prelude.{List, Some, length, map, slice_get, ℕ, ◌<◌, ◌≡◌}
 use Rattle.tv_seats.specs.Seats.{HasBackRooms, back, seats_out}
-use Rattle.tv_open.specs.Tries.{IsSameButRooms}
-use Rattle.tv_open.specs.Turns.{AreRestarted}
-use Rattle.tv_open.specs.declared.open.Open.{Open}
+use Rattle.tv_instances.specs.Tries.{IsSameButRooms}
+use Rattle.tv_instances.specs.Turns.{AreRestarted}
+use Rattle.tv_instances.specs.declared.open.Open.{Open}
 use Rattle.tv_run.specs.Following.{HasSameAround, OthersAreSame}
 use Rattle.tv_run.specs.declared.instances.Instance as code
 use Rattle.tv_run.specs.declared.run.OpenRun.{OpenRun}

@@ -1,8 +1,8 @@
 -- Room that is taken, and what is as it was beside it.
 use Rattle.std.specs.Prelude.{Some, [], length, slice_get, vec_capacity, ℕ, ◌+◌, ◌++◌, ◌∷◌, ◌≡◌, ◌≤◌}
 use Rattle.tv_frame.specs.Calls.{SameRegions}
-use Rattle.tv_forest.specs.Forest.{Instances}
-use Rattle.tv_entries.specs.declared.entry.Entry.{Entry}
+use Rattle.tv_instances.specs.Forest.{Instances}
+use Rattle.tv_history.specs.declared.entry.Entry.{Entry}
 use Rattle.tv_run.specs.declared.instances.Instance as code
 use Rattle.tv_run.specs.declared.run.OpenRun.{OpenRun}
 use Rattle.tv_run.specs.Standing.{Fits, run_of}

@@ -7,12 +7,12 @@ use Rattle.tv_gate.specs.Outcomes.{Giving}
 use Rattle.tv_flow.specs.Flows.{Step}
 use Rattle.tv_dispatch.specs.declared.plan.Plan.{Plan}
 use Rattle.tv_check.specs.RunViews.{run_view}
-use Rattle.tv_instance.specs.Events.{Event}
+use Rattle.tv_model.specs.instance.Events.{Event}
 use Rattle.tv_model.specs.Jobs.{Job}
 use Rattle.tv_history.specs.Histories.{next_ask}
-use Rattle.tv_order.specs.Moments.{IsQuiet, all_jobs}
-use Rattle.tv_framing.specs.Answers.{AreOutputs, CanSettle, has_ended_now}
-use Rattle.tv_framing.specs.Views.{View}
+use Rattle.tv_history.specs.order.Moments.{IsQuiet, all_jobs}
+use Rattle.tv_instances.specs.Answers.{AreOutputs, CanSettle, has_ended_now}
+use Rattle.tv_instances.specs.FramingViews.{View}
 use Rattle.tv_frame.specs.Calls.{SameRegions}
 use Rattle.tv_frame.specs.Prepared.{MayGive}
 use Rattle.tv_frame.specs.Tables.{levels_in}
@@ -21,15 +21,15 @@ use Rattle.tv_frame.specs.declared.events.Settled.TheVariants as settled
 use Rattle.tv_seats.specs.Seats.{Seat}
 use Rattle.tv_seats.specs.declared.stage.Stage.{Stage}
 use Rattle.tv_seats.specs.declared.stage.Stage.TheVariants as stage
-use Rattle.tv_forest.specs.Forest.{Instance, Instances, IsAt}
-use Rattle.tv_forest.specs.firsts.Opening.{IsStill}
-use Rattle.tv_entries.specs.Calls.{Settles}
-use Rattle.tv_entries.specs.Runs.{past_of}
+use Rattle.tv_instances.specs.Forest.{Instance, Instances, IsAt}
+use Rattle.tv_instances.specs.forest_firsts.Opening.{IsStill}
+use Rattle.tv_history.specs.Calls.{Settles}
+use Rattle.tv_history.specs.Runs.{past_of}
 use Rattle.tv_model.specs.Opening.{first_nested}
-use Rattle.tv_entries.specs.declared.entry.Entry.{Entry}
-use Rattle.tv_entries.specs.declared.entry.Entry.TheVariants as entry
-use Rattle.tv_open.specs.Firsts.{BindsFault, IsReadySeat}
-use Rattle.tv_open.specs.declared.firsts.Seeking.TheVariants as seeking
+use Rattle.tv_history.specs.declared.entry.Entry.{Entry}
+use Rattle.tv_history.specs.declared.entry.Entry.TheVariants as entry
+use Rattle.tv_instances.specs.Firsts.{BindsFault, IsReadySeat}
+use Rattle.tv_instances.specs.declared.firsts.Seeking.TheVariants as seeking
 use Rattle.tv_run.specs.Changes.{IsOpenHere, IsReadyToSettleIn, IsSeatHere}
 use Rattle.tv_run.specs.Rooms.{IsAsBefore}
 use Rattle.tv_run.specs.Standing.{Fits, Stands, StandsStill, run_of}

@@ -4,12 +4,12 @@ use Rattle.std.specs.Prelude.{List, Vec, [], length, ◌∷◌, ◌≡◌}
 use Rattle.tv_value.specs.Values.{Value}
 use Rattle.tv_flow.specs.Flows.{Document}
 use Rattle.tv_pool.specs.Pool.{number_of}
-use Rattle.tv_nodes.specs.Calls.{KeepsRegions}
+use Rattle.tv_stream.specs.nodes.Calls.{KeepsRegions}
 use Rattle.tv_check.specs.declared.plans.FlowPlan.{FlowPlan}
 use Rattle.tv_outputs.specs.Known.{Nodes}
 use Rattle.tv_frame.specs.Calls.{CanStart}
-use Rattle.tv_open.specs.Standing.{StartsOpen}
-use Rattle.tv_open.specs.declared.open.Open.{Open}
+use Rattle.tv_instances.specs.Standing.{StartsOpen}
+use Rattle.tv_instances.specs.declared.open.Open.{Open}
 
 -- its one instance is that of the plan's flow on these values, told nothing, in a region that is new
 pub record HoldsStarted (plan : FlowPlan) (values : List Value) (pool after : Nodes)

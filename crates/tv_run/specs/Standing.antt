@@ -17,21 +17,21 @@ use Rattle.tv_model.specs.Jobs.{Job}
 use Rattle.tv_model.specs.Meanings.{meaning}
 use Rattle.tv_history.specs.Histories.{is_settled}
 use Rattle.tv_history.specs.ReadOff.{has_failed}
-use Rattle.tv_framing.specs.Views.{View}
+use Rattle.tv_instances.specs.FramingViews.{View}
 use Rattle.tv_frame.specs.Tables.{levels_in}
 use Rattle.tv_frame.specs.declared.frame.Frame.{Frame}
-use Rattle.tv_beside.specs.Theirs.{AreTheirs}
+use Rattle.tv_frame_laws.specs.Theirs.{AreTheirs}
 use Rattle.tv_seats.specs.Seats.{Seat}
 use Rattle.tv_seats.specs.Tables.{Rows}
 use Rattle.tv_seats.specs.Stages.{is_aside, is_idle, is_waiting}
 use Rattle.tv_seats.specs.declared.stage.Stage.{Stage}
-use Rattle.tv_forest.specs.seats.Seated.{AreAtSteps, spot_of}
-use Rattle.tv_forest.specs.Forest.{AreNumbered, Instance, Instances, IsAt, Stand, TellsNumbers, names_by}
-use Rattle.tv_forest.specs.firsts.Opening.{IsStill}
-use Rattle.tv_entries.specs.Runs.{IsLegalRun, Run, instances_of, meant, past_of}
-use Rattle.tv_open.specs.Standing.{IsOpen}
-use Rattle.tv_open.specs.declared.open.Open.{Open}
-use Rattle.tv_levels.specs.Views.{level_view}
+use Rattle.tv_instances.specs.seats.Seated.{AreAtSteps, spot_of}
+use Rattle.tv_instances.specs.Forest.{AreNumbered, Instance, Instances, IsAt, Stand, TellsNumbers, names_by}
+use Rattle.tv_instances.specs.forest_firsts.Opening.{IsStill}
+use Rattle.tv_history.specs.Runs.{IsLegalRun, Run, instances_of, meant, past_of}
+use Rattle.tv_instances.specs.Standing.{IsOpen}
+use Rattle.tv_instances.specs.declared.open.Open.{Open}
+use Rattle.tv_frame.specs.Views.{level_view}
 use Rattle.tv_run.specs.Ended.{AreMainLevels}
 use Rattle.tv_run.specs.Looks.{AreLooks, IsFlow}
 use Rattle.tv_run.specs.declared.ended.Ended.{Ended}

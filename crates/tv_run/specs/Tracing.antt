@@ -4,9 +4,9 @@ use Rattle.tv_gate.specs.Outcomes.{Giving}
 use Rattle.tv_flow.specs.Flows.{Flow}
 use Rattle.tv_check.specs.RunViews.{run_view}
 use Rattle.tv_history.specs.Histories.{is_done}
-use Rattle.tv_entries.specs.Runs.{past_of}
+use Rattle.tv_history.specs.Runs.{past_of}
 use Rattle.tv_seats.specs.Seats.{Seat}
-use Rattle.tv_forest.specs.stands.Seats.{is_over}
+use Rattle.tv_instances.specs.stands.Seats.{is_over}
 use Rattle.tv_traces.specs.Seen.{Spot}
 use Rattle.tv_traces.specs.Traced.{AreTraces}
 use Rattle.tv_traces.specs.declared.traces.Traces.{Traces}

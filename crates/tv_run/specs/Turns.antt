@@ -2,20 +2,20 @@
 use Rattle.std.specs.Prelude.{Bool, None, Option, Some, ◌≡◌, false, true, ℕ}
 use Rattle.tv_gate.specs.Outcomes.{Giving, Outcome}
 use Rattle.tv_frame.specs.Calls.{SameRegions}
-use Rattle.tv_entries.specs.Answers.{Question}
-use Rattle.tv_entries.specs.Calls.{IsNothingOffered, IsTask, NothingSettles, Settles, hands_out, out_now, state_of, try_if_out}
-use Rattle.tv_entries.specs.Refusals.{IsAccepting}
-use Rattle.tv_entries.specs.Runs.{Appends, Run}
+use Rattle.tv_history.specs.Answers.{Question}
+use Rattle.tv_history.specs.Calls.{IsNothingOffered, IsTask, NothingSettles, Settles, hands_out, out_now, state_of, try_if_out}
+use Rattle.tv_history.specs.Refusals.{IsAccepting}
+use Rattle.tv_history.specs.Runs.{Appends, Run}
 use Rattle.tv_run.specs.Standing.{StandsOpen, StandsStill, run_of}
-use Rattle.tv_entries.specs.Recalls.{IsRecalled}
-use Rattle.tv_entries.specs.Idle.{AreIdle}
-use Rattle.tv_entries.specs.declared.entry.Entry.{Entry}
+use Rattle.tv_history.specs.Recalls.{IsRecalled}
+use Rattle.tv_history.specs.Idle.{AreIdle}
+use Rattle.tv_history.specs.declared.entry.Entry.{Entry}
 use Rattle.tv_run.specs.declared.run.OpenRun.{OpenRun}
-use Rattle.tv_entries.specs.declared.ticket.JobState.TheVariants as state
-use Rattle.tv_entries.specs.declared.ticket.Ticket.{Ticket}
-use Rattle.tv_entries.specs.declared.told.Accepted.{Accepted}
-use Rattle.tv_entries.specs.declared.told.Moved.{Moved}
-use Rattle.tv_entries.specs.declared.told.Moved.TheVariants as moved
+use Rattle.tv_history.specs.declared.ticket.JobState.TheVariants as state
+use Rattle.tv_history.specs.declared.ticket.Ticket.{Ticket}
+use Rattle.tv_history.specs.declared.told.Accepted.{Accepted}
+use Rattle.tv_history.specs.declared.told.Moved.{Moved}
+use Rattle.tv_history.specs.declared.told.Moved.TheVariants as moved
 
 module _ (gives : Giving) where
   -- it stands as it did, but for rooms: no node came or went

@@ -11,18 +11,18 @@ use Rattle.tv_model.specs.Jobs.{Job}
 use Rattle.tv_history.specs.Entries.{History}
 use Rattle.tv_history.specs.Histories.{next_ask}
 use Rattle.tv_model.specs.JobOrder.{place_before}
-use Rattle.tv_order.specs.Moments.{all_jobs, goes_on, has_offer}
-use Rattle.tv_framing.specs.Views.{View}
+use Rattle.tv_history.specs.order.Moments.{all_jobs, goes_on, has_offer}
+use Rattle.tv_instances.specs.FramingViews.{View}
 use Rattle.tv_seats.specs.Firsts.{MayGoOut, MayNest}
 use Rattle.tv_seats.specs.Seats.{Seat}
-use Rattle.tv_forest.specs.seats.Seated.{IsNextTry}
-use Rattle.tv_forest.specs.Forest.{Instance, Instances, IsJobAt}
-use Rattle.tv_forest.specs.firsts.FirstWithin.{IsFirst, IsFirstWithin, IsFoundAt}
-use Rattle.tv_entries.specs.Runs.{past_of}
-use Rattle.tv_entries.specs.declared.ticket.Ticket.{Ticket}
-use Rattle.tv_open.specs.Events.{WaitsReady}
-use Rattle.tv_open.specs.declared.firsts.Seeking.{Seeking}
-use Rattle.tv_open.specs.declared.firsts.Seeking.TheVariants as seeking
+use Rattle.tv_instances.specs.seats.Seated.{IsNextTry}
+use Rattle.tv_instances.specs.Forest.{Instance, Instances, IsJobAt}
+use Rattle.tv_instances.specs.forest_firsts.FirstWithin.{IsFirst, IsFirstWithin, IsFoundAt}
+use Rattle.tv_history.specs.Runs.{past_of}
+use Rattle.tv_history.specs.declared.ticket.Ticket.{Ticket}
+use Rattle.tv_instances.specs.Events.{WaitsReady}
+use Rattle.tv_instances.specs.declared.firsts.Seeking.{Seeking}
+use Rattle.tv_instances.specs.declared.firsts.Seeking.TheVariants as seeking
 use Rattle.tv_seats.specs.declared.stage.Stage.TheVariants as stage
 use Rattle.tv_run.specs.Jobs.{stage_of}
 use Rattle.tv_run.specs.Standing.{numbers_of, run_of}

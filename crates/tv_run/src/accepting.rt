@@ -8,23 +8,23 @@ ghost use Rattle.tv_flow.specs.Views.{activity_view};
 ghost use Rattle.tv_cell.specs.PieceValues.{piece_values};
 ghost use Rattle.tv_cell.specs.Soundness.{AreSound};
 ghost use Rattle.tv_run.specs.Accepting.{FailsThen, GoesOnWith, GoesToBut, HasAsideRoom, HasBackRoom, HasEntryRoom, IsAnswerTo, IsOutHere, IsWrongFor, MovesTo, NestsThen, SettlesWith};
-ghost use Rattle.tv_entries.specs.Answers.{Question, question};
-ghost use Rattle.tv_entries.specs.Calls.{try_if_out};
-ghost use Rattle.tv_entries.specs.Refusals.{IsTested, accepts, is_right, is_settled_job};
+ghost use Rattle.tv_history.specs.Answers.{Question, question};
+ghost use Rattle.tv_history.specs.Calls.{try_if_out};
+ghost use Rattle.tv_history.specs.Refusals.{IsTested, accepts, is_right, is_settled_job};
 ghost use Rattle.tv_run.specs.Standing.{Fits, StandsOpen, StandsStill, names_of, run_of};
 ghost use Rattle.tv_run.specs.Turns.{AcceptsTo, IsAsked, StaysAs};
-ghost use Rattle.tv_entries.specs.declared.told.Accepted.TheVariants.{Again, Settled as SettledAs};
+ghost use Rattle.tv_history.specs.declared.told.Accepted.TheVariants.{Again, Settled as SettledAs};
 ghost use Rattle.tv_value.specs.Values.{JobName as TheName, Value as AValue};
 ghost use Rattle.tv_value.specs.Views.{values_view};
 ghost use Rattle.tv_flow.specs.Flows.{Step as TheStep};
 ghost use Rattle.tv_dispatch.specs.Jobs.{error_results};
-ghost use Rattle.tv_framing.specs.Answers.{AreInputs};
-ghost use Rattle.tv_framing.specs.Views.{View};
+ghost use Rattle.tv_instances.specs.Answers.{AreInputs};
+ghost use Rattle.tv_instances.specs.FramingViews.{View};
 ghost use Rattle.tv_seats.specs.Seats.{Seat, with_stage};
 ghost use Rattle.tv_seats.specs.declared.stage.Stage.TheVariants.{Aside as AnAside, Idle as AnIdle};
-ghost use Rattle.tv_forest.specs.seats.Seated.{spot_of};
-ghost use Rattle.tv_forest.specs.Entries.{seated, with_instance};
-ghost use Rattle.tv_forest.specs.Forest.{Instance, Instances, IsAt};
+ghost use Rattle.tv_instances.specs.seats.Seated.{spot_of};
+ghost use Rattle.tv_instances.specs.Entries.{seated, with_instance};
+ghost use Rattle.tv_instances.specs.Forest.{Instance, Instances, IsAt};
 ghost use Rattle.tv_run.specs.Changes.{IsOpenHere};
 ghost use Rattle.tv_run.specs.Jobs.{IsOfOpen, step_of};
 ghost use Rattle.tv_run.specs.Rooms.{IsAsBefore};
@@ -32,13 +32,13 @@ ghost use Rattle.tv_run.specs.declared.instances.Numbered.{Numbered as TheNumber
 
 use crate::instances::Numbered;
 use crate::run::OpenRun;
+use crate::{error_pieces, value_pieces};
 use std::alloc::Global;
 use tv_cell::Pieces;
 use tv_dispatch::{Next, Verdict, after, judge};
-use tv_entries::{Accepted, Entry, Tested, Ticket};
 use tv_flow::Activity;
 use tv_gate::Outcome;
-use tv_results::{error_pieces, value_pieces};
+use tv_history::{Accepted, Entry, Tested, Ticket};
 use tv_value::{Copied, Depths, Items, Name, NoMemory, Sequence, Text};
 
 /// Whether two lists of outputs have the same depths, in order.

@@ -1,6 +1,6 @@
 //! What is left of the main instance once it has ended.
 use tv_cell::Pieces;
-use tv_levels::Level;
+use tv_frame::Level;
 
 /// What an instance gives that has ended, and what tells what its values were made of.
 #[derive(Drop)]

@@ -1,12 +1,12 @@
 //! Handing out tries, and taking them back.
 ghost use Rattle.std.specs.Prelude.{◌≡◌, ◌<◌, ◌+◌, None, Some, IfOk, IsOk, OnErr, OnOk, length};
 ghost use Rattle.tv_gate.specs.Outcomes.{Giving};
-ghost use Rattle.tv_framing.specs.Views.{View};
+ghost use Rattle.tv_instances.specs.FramingViews.{View};
 ghost use Rattle.tv_seats.specs.Firsts.{MayGoOut};
 ghost use Rattle.tv_seats.specs.declared.stage.Stage.TheVariants.{Out as AnOut};
-ghost use Rattle.tv_open.specs.Events.{WaitsReady};
-ghost use Rattle.tv_forest.specs.Forest.{Instance, Instances};
-ghost use Rattle.tv_entries.specs.Calls.{out_now};
+ghost use Rattle.tv_instances.specs.Events.{WaitsReady};
+ghost use Rattle.tv_instances.specs.Forest.{Instance, Instances};
+ghost use Rattle.tv_history.specs.Calls.{out_now};
 ghost use Rattle.tv_run.specs.Changes.{IsOpenHere, TakesIn};
 ghost use Rattle.tv_run.specs.Rooms.{IsAsBefore};
 ghost use Rattle.tv_run.specs.Standing.{Stands, StandsOpen, run_of};
@@ -17,8 +17,8 @@ ghost use Rattle.tv_run.specs.Walking.{IsHandable, IsOnOffer, IsTicketOf, WaitsI
 use crate::instances::Numbered;
 use crate::run::OpenRun;
 use tv_dispatch::{Next, begin};
-use tv_entries::{Entry, Ticket};
-use tv_open::Seeking;
+use tv_history::{Entry, Ticket};
+use tv_instances::Seeking;
 use tv_seats::Stage;
 use tv_value::NoMemory;
 

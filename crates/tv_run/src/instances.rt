@@ -3,7 +3,7 @@ ghost use Rattle.std.specs.Prelude.{◌≡◌, ◌<◌, ◌∷◌, [], IfSome, I
 ghost use Rattle.tv_seats.specs.Seats.{place_at, step_at};
 ghost use Rattle.tv_run.specs.Standing.{seats_of};
 
-use tv_open::Open;
+use tv_instances::Open;
 use tv_seats::Past;
 
 /// An instance that was opened.

@@ -3,11 +3,11 @@ ghost use Rattle.std.specs.Prelude.{◌≡◌, ◌<◌, ◌++◌, ◌∷◌, [],
 ghost use Rattle.tv_value.specs.Values.{JobName, Name};
 ghost use Rattle.tv_gate.specs.Outcomes.{Giving};
 ghost use Rattle.tv_flow.specs.Views.{step_view};
-ghost use Rattle.tv_entries.specs.Calls.{state_of, try_if_out};
+ghost use Rattle.tv_history.specs.Calls.{state_of, try_if_out};
 ghost use Rattle.tv_flow.specs.Flows.{Step as TheStep};
 ghost use Rattle.tv_seats.specs.Seats.{Seat};
 ghost use Rattle.tv_seats.specs.declared.stage.Stage.TheVariants.{Waiting as AWaiting};
-ghost use Rattle.tv_forest.specs.Forest.{Instance as AnInstance, Instances, IsAt};
+ghost use Rattle.tv_instances.specs.Forest.{Instance as AnInstance, Instances, IsAt};
 ghost use Rattle.tv_run.specs.Jobs.{is_at, named_step_of, seat_of, stage_of, step_number_of, step_of};
 ghost use Rattle.tv_run.specs.Looks.{tries_of};
 ghost use Rattle.tv_run.specs.Standing.{Fits, StandsStill, names_of, run_of};
@@ -16,8 +16,8 @@ use crate::instances::Numbered;
 use crate::run::OpenRun;
 use std::alloc::Global;
 use tv_dispatch::Plan;
-use tv_entries::{JobState, Ticket};
 use tv_flow::Step;
+use tv_history::{JobState, Ticket};
 use tv_seats::Stage;
 use tv_value::{Copied, JobName, Name, NoMemory, Place};
 

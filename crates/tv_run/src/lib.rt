@@ -1,6 +1,6 @@
 //! A run over open instances: one for each flow that is open.
 //!
-//! An `OpenRun` has a list of the instances that were opened, the main one first. Each that is open is an `Open` (`tv_open`), which is
+//! An `OpenRun` has a list of the instances that were opened, the main one first. Each that is open is an `Open` (`tv_instances`), which is
 //! told each result, closed list and passed fault, knows at once what follows, and has where its jobs stand; of each that has ended the
 //! seats are left. All have their nodes in one pool. Beside them stand the jobs of the whole run by number, and the entries of what was
 //! done.
@@ -24,10 +24,19 @@
 //! - `outputs`: what a run gives once it is done, and its totals so far
 //! - `tracing`: what was made of what in a run that is done, and by the settled jobs of one that goes on
 //! - `over`: what holds of every run, and of one that is done
+//!
+//! **What a job gives** at the outputs of its step, as pieces.
+//!
+//! The values of a right outcome are put into cells of their own. A job that fails or is bounced gives one error document, which all
+//! its outputs share, each with the declared depth of its output. Want of memory is the one refusal.
+//!
+//! - `values`: what a right outcome gives
+//! - `errors`: what a failed or bounced job gives
 #![tactic(auto)]
 
 mod accepting;
 mod ended;
+mod errors;
 mod handing;
 mod instances;
 mod jobs;
@@ -41,6 +50,9 @@ mod settling;
 mod slots;
 mod tasks;
 mod tracing;
+mod values;
 mod walk;
 
+pub use errors::{bounced_pieces, error_pieces};
 pub use run::OpenRun;
+pub use values::{value_piece, value_pieces, values_of};

@@ -6,16 +6,16 @@ ghost use Rattle.tv_flow.specs.Flows.{Step};
 ghost use Rattle.tv_check.specs.RunViews.{run_view};
 ghost use Rattle.tv_cell.specs.PieceValues.{piece_values};
 ghost use Rattle.tv_cell.specs.Soundness.{AreSound};
-ghost use Rattle.tv_framing.specs.Answers.{AreOutputs};
-ghost use Rattle.tv_framing.specs.Views.{View};
+ghost use Rattle.tv_instances.specs.Answers.{AreOutputs};
+ghost use Rattle.tv_instances.specs.FramingViews.{View};
 ghost use Rattle.tv_seats.specs.Firsts.{MayNest};
 ghost use Rattle.tv_seats.specs.Seats.{Seat};
 ghost use Rattle.tv_seats.specs.declared.stage.Stage.TheVariants.{Nested as ANested};
-ghost use Rattle.tv_levels.specs.Views.{level_view};
-ghost use Rattle.tv_open.specs.Events.{WaitsReady};
-ghost use Rattle.tv_open.specs.Levels.{AreItsLevels};
-ghost use Rattle.tv_forest.specs.Entries.{shut, with_instance};
-ghost use Rattle.tv_forest.specs.Forest.{Instance, Instances, IsAt};
+ghost use Rattle.tv_frame.specs.Views.{level_view};
+ghost use Rattle.tv_instances.specs.Events.{WaitsReady};
+ghost use Rattle.tv_instances.specs.Levels.{AreItsLevels};
+ghost use Rattle.tv_instances.specs.Entries.{shut, with_instance};
+ghost use Rattle.tv_instances.specs.Forest.{Instance, Instances, IsAt};
 ghost use Rattle.tv_run.specs.Changes.{ChangesTo, HasNestRoom, IsOpenHere, IsReadyIn, LeavesOthers, TakesIn};
 ghost use Rattle.tv_run.specs.Looks.{OpensNumber};
 ghost use Rattle.tv_run.specs.Rooms.{IsAsBefore};
@@ -26,11 +26,11 @@ ghost use Rattle.tv_run.specs.Turns.{MovesTo, SettlesTo, StaysAs};
 use crate::ended::Ended;
 use crate::instances::Numbered;
 use crate::run::OpenRun;
-use crate::slots::{Husk, keep};
+use crate::slots::{Leftover, keep};
 use std::mem;
 use tv_dispatch::{Kind, Plan};
-use tv_entries::{Entry, Moved};
-use tv_open::{Seeking, Spot};
+use tv_history::{Entry, Moved};
+use tv_instances::{Seeking, Spot};
 use tv_seats::Stage;
 use tv_value::{Copied, NoMemory};
 
@@ -278,7 +278,7 @@ impl OpenRun {
         let numbers = mem::replace(&mut ended.jobs, Vec::new(self.alloc));
         let (outs, seats, levels) = slot[0].finish(self.alloc, &mut self.pool);
         ended.seats = Some(seats);
-        keep(&mut self.husks, Husk { slot, numbers });
+        keep(&mut self.leftovers, Leftover { slot, numbers });
         Ended { outs, levels }
     }
 }

@@ -3,12 +3,12 @@ ghost use Rattle.std.specs.Prelude.{◌≡◌, false, true};
 ghost use Rattle.tv_gate.specs.Outcomes.{Giving};
 ghost use Rattle.tv_flow.specs.Formed.{is_formed};
 ghost use Rattle.tv_history.specs.Histories.{is_done};
-ghost use Rattle.tv_entries.specs.Runs.{IsLegalRun, past_of};
+ghost use Rattle.tv_history.specs.Runs.{IsLegalRun, past_of};
 ghost use Rattle.tv_run.specs.Standing.{StandsOpen, StandsStill, run_of};
 ghost use Rattle.tv_run.specs.Turns.{IsOver};
 
 use crate::run::OpenRun;
-use tv_entries::Entry;
+use tv_history::Entry;
 
 impl OpenRun {
     /// What was done, the oldest first. Constant.

@@ -4,18 +4,18 @@ ghost use Rattle.tv_value.specs.Values.{Name};
 ghost use Rattle.tv_flow.specs.Flows.{Step};
 ghost use Rattle.tv_cell.specs.PieceValues.{piece_values};
 ghost use Rattle.tv_cell.specs.Soundness.{AreSound};
-ghost use Rattle.tv_instance.specs.Events.{gave};
-ghost use Rattle.tv_framing.specs.Views.{View};
+ghost use Rattle.tv_model.specs.instance.Events.{gave};
+ghost use Rattle.tv_instances.specs.FramingViews.{View};
 ghost use Rattle.tv_frame.specs.Prepared.{MayGive};
 ghost use Rattle.tv_seats.specs.Seats.{Seat, with_stage};
 ghost use Rattle.tv_seats.specs.declared.stage.Stage.TheVariants.{Settled as ASettled};
-ghost use Rattle.tv_forest.specs.Forest.{Instance, Instances};
+ghost use Rattle.tv_instances.specs.Forest.{Instance, Instances};
 ghost use Rattle.tv_run.specs.Changes.{IsReadyIn, IsSeatHere, MayBeBouncedIn, MayBeGivenIn, TellsIn};
 ghost use Rattle.tv_run.specs.Rooms.{IsAsBefore};
 
 use crate::run::OpenRun;
 use tv_cell::Pieces;
-use tv_open::Spot;
+use tv_instances::Spot;
 use tv_value::NoMemory;
 
 impl OpenRun {

@@ -8,8 +8,8 @@ ghost use Rattle.tv_flow.specs.Views.{flow_view};
 ghost use Rattle.tv_check.specs.RunViews.{run_view};
 ghost use Rattle.tv_cell.specs.PieceValues.{piece_values};
 ghost use Rattle.tv_cell.specs.Soundness.{AreSound};
-ghost use Rattle.tv_forest.specs.Forest.{Instance as AnInstance, Instances, IsAt};
-ghost use Rattle.tv_open.specs.declared.open.Open.{Open as Held};
+ghost use Rattle.tv_instances.specs.Forest.{Instance as AnInstance, Instances, IsAt};
+ghost use Rattle.tv_instances.specs.declared.open.Open.{Open as Held};
 ghost use Rattle.tv_run.specs.Changes.{AddsTo, CanAdd, IsOpenedOn};
 ghost use Rattle.tv_run.specs.Following.{AddsNumber, CanFollow, CanNumber, Enters, FollowsIn, IsEntering, LooksInto, Numbers};
 ghost use Rattle.tv_run.specs.Rooms.{HasRoomBeside, HasRoomIn, IsAsBefore, IsNoted, IsSameButEntries, IsSameButRooms};
@@ -18,15 +18,15 @@ ghost use Rattle.tv_run.specs.Standing.{Fits, StandsOpen};
 use crate::ended::Ended;
 use crate::instances::{Instance, Numbered};
 use crate::plans::{FlowLook, looks_of};
-use crate::slots::{Husk, husk_with};
+use crate::slots::{Leftover, leftover_with};
+use crate::value_piece;
 use std::alloc::Global;
 use tv_cell::{Pieces, Row};
 use tv_check::{CheckedRun, FlowPlan};
-use tv_entries::Entry;
-use tv_open::Open;
+use tv_history::Entry;
+use tv_instances::Open;
 use tv_outputs::Nodes;
 use tv_pool::Pool;
-use tv_results::value_piece;
 use tv_value::{Name, NoMemory, Value};
 
 /// A run: its instances, its jobs by number, and what was done.
@@ -51,11 +51,11 @@ pub struct OpenRun {
     // What the main instance gives, once it has ended.
     pub(crate) outs: Option<Ended>,
     // The memory of instances that have ended, for those that are opened.
-    pub(crate) husks: Vec<Husk>,
+    pub(crate) leftovers: Vec<Leftover>,
 }
 
-/// So many husks are kept.
-const HUSKS: usize = 16;
+/// So many leftovers are kept.
+const LEFTOVERS: usize = 16;
 
 /// The values given, as pieces, in the order of the names.
 fn input_pieces(alloc: Global, inputs: &[(Name, Value)]) -> Result<Pieces, NoMemory>
@@ -89,7 +89,7 @@ fn without_instances(alloc: Global, run: CheckedRun) -> Result<OpenRun, NoMemory
         due: 0,
         failed: 0,
         outs: None,
-        husks: Vec::with_capacity(alloc, HUSKS)?,
+        leftovers: Vec::with_capacity(alloc, LEFTOVERS)?,
     })
 }
 
@@ -147,27 +147,27 @@ impl OpenRun {
         self.instances.reserve(1)?;
         let plan = self.run.flow(flow);
         let tables = &self.looks[flow as usize].tables;
-        let (pool, husks) = (&mut self.pool, &mut self.husks);
-        let mut husk = husk_with(self.alloc, plan, tables, inputs, pool, husks)?;
-        match self.reserve(&mut husk.numbers, husk.slot[0].known()) {
+        let (pool, leftovers) = (&mut self.pool, &mut self.leftovers);
+        let mut leftover = leftover_with(self.alloc, plan, tables, inputs, pool, leftovers)?;
+        match self.reserve(&mut leftover.numbers, leftover.slot[0].known()) {
             Ok(()) => {
-                self.enter(flow, opener, husk);
+                self.enter(flow, opener, leftover);
                 Ok(())
             }
             Err(error) => {
-                husk.slot[0].abandon(&mut self.pool);
+                leftover.slot[0].abandon(&mut self.pool);
                 Err(error)
             }
         }
     }
 
     /// An instance is open from now on. Takes no memory.
-    fn enter(&mut self, flow: u32, opener: Option<u64>, husk: Husk)
-        requires { (o : Held) × IsEntering self.old husk.numbers husk.slot o }
-        ensures { (o : Held) → husk.slot.items ≡ o ∷ [] → Enters self.old self.new flow opener o }
+    fn enter(&mut self, flow: u32, opener: Option<u64>, leftover: Leftover)
+        requires { (o : Held) × IsEntering self.old leftover.numbers leftover.slot o }
+        ensures { (o : Held) → leftover.slot.items ≡ o ∷ [] → Enters self.old self.new flow opener o }
     {
         let number = self.instances.len() as u64;
-        let Husk { slot, numbers } = husk;
+        let Leftover { slot, numbers } = leftover;
         self.instances.push_reserved(Instance {
             flow,
             opener,

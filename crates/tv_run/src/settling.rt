@@ -3,22 +3,22 @@ ghost use Rattle.std.specs.Prelude.{◌≡◌, ◌<◌, ℕ, IfOk, MatchOption, 
 ghost use Rattle.tv_gate.specs.Outcomes.{Giving};
 ghost use Rattle.tv_cell.specs.PieceValues.{piece_values};
 ghost use Rattle.tv_cell.specs.Soundness.{AreSound};
-ghost use Rattle.tv_instance.specs.Events.{Event};
-ghost use Rattle.tv_framing.specs.Views.{View};
+ghost use Rattle.tv_model.specs.instance.Events.{Event};
+ghost use Rattle.tv_instances.specs.FramingViews.{View};
 ghost use Rattle.tv_model.specs.Jobs.{Job};
-ghost use Rattle.tv_forest.specs.Forest.{Instance, Instances};
-ghost use Rattle.tv_open.specs.Events.{TellsAt};
+ghost use Rattle.tv_instances.specs.Forest.{Instance, Instances};
+ghost use Rattle.tv_instances.specs.Events.{TellsAt};
 ghost use Rattle.tv_run.specs.Changes.{IsOpenHere, IsReadyToSettleIn, TellsIn};
 ghost use Rattle.tv_run.specs.Rooms.{HasRoomIn};
 ghost use Rattle.tv_run.specs.Settlements.{BouncesIn, IsBouncedJob, IsOpenIn, IsReadyToSettleLevel, LeavesLast, NothingBouncesIn, OfOpen, SettlesBusy, SettlesIn, SettlesLast, settled_entry};
 ghost use Rattle.tv_run.specs.Standing.{Fits, Stands, StandsOpen};
 ghost use Rattle.tv_run.specs.Turns.{MovesTo, SettlesTo, StaysAs};
 
+use crate::bounced_pieces;
 use crate::run::OpenRun;
 use tv_cell::Pieces;
-use tv_entries::{Entry, Moved};
 use tv_frame::Settled;
-use tv_results::bounced_pieces;
+use tv_history::{Entry, Moved};
 use tv_value::{NoMemory, Place};
 
 /// The entry of what was settled in an instance, with its place put here.

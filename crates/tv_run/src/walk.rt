@@ -2,18 +2,18 @@
 ghost use Rattle.std.specs.Prelude.{◌≡◌, ◌<◌, ◌+◌, IfSome, Some, false, is_some, length, true};
 ghost use Rattle.std.specs.Option.{option_map_or};
 ghost use Rattle.tv_gate.specs.Outcomes.{Giving};
-ghost use Rattle.tv_framing.specs.Views.{View};
+ghost use Rattle.tv_instances.specs.FramingViews.{View};
 ghost use Rattle.tv_seats.specs.Stages.{is_nested};
 ghost use Rattle.tv_seats.specs.Seats.{stage_at};
 ghost use Rattle.tv_seats.specs.declared.stage.Stage.TheVariants.{Nested as ANested};
-ghost use Rattle.tv_forest.specs.Forest.{Instance, Instances, IsAt};
+ghost use Rattle.tv_instances.specs.Forest.{Instance, Instances, IsAt};
 ghost use Rattle.tv_run.specs.Jobs.{AreInRun};
 ghost use Rattle.tv_run.specs.Standing.{Fits, Stands, StandsOpen};
 ghost use Rattle.tv_run.specs.Walking.{IsFound, IsFoundBefore, IsFoundInside, IsFoundOf, IsOwn, IsOwnBegun, is_sought};
 
 use crate::run::OpenRun;
 use tv_dispatch::{Kind, Plan};
-use tv_open::{Open, Seeking};
+use tv_instances::{Open, Seeking};
 use tv_seats::Stage;
 
 /// How deep flows are nested at most, the main one counted.

@@ -10,7 +10,7 @@ use Rattle.std.proofs.lemmas.List.MinMax.{ranks_by}
 use Rattle.std.proofs.lemmas.Map.Lookups.{exact_bytes}
 use Rattle.std.proofs.lemmas.Bool.{and_parts}
 use Rattle.tv_lemmas.proofs.Orderings.{not_lt-equal}
-use Rattle.tv_ready.specs.Listed.{with_job}
+use Rattle.tv_idle.specs.Listed.{with_job}
 use Rattle.tv_seats.specs.declared.stage.Stage.{Stage}
 use Rattle.tv_seats.specs.Kept.{AreApart, AreJobsAt, AreNumbersAt, IsJobAt, IsOneOf, IsSeatAt, numbers_of, rises}
 use Rattle.tv_seats.specs.Seats.{Seat, staged, with_stage}

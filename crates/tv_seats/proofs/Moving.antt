@@ -5,7 +5,7 @@ use mir.Val.{bool_byte}
 use Rattle.std.specs.Prelude.{nat_lt}
 use Rattle.std.proofs.Common.{arith, ap, subst, sym, ◌∙◌, inl, inr}
 use Rattle.std.proofs.lemmas.Option.{slice_get_within}
-use Rattle.tv_ready.specs.Listed.{Listed, with_job}
+use Rattle.tv_idle.specs.Listed.{Listed, with_job}
 use Rattle.tv_seats.specs.declared.stage.Stage.{Stage}
 use Rattle.tv_seats.specs.declared.stage.Stage.TheVariants as stage
 use Rattle.tv_seats.specs.declared.steps.StepSeats.{StepSeats}

@@ -1,7 +1,7 @@
 -- A job goes from one stage to another.
 use Rattle.std.specs.Prelude.{◌≡◌, ℕ, ◌+◌, ◌-◌, ◌<◌, ◌≤◌, if◌then◌else◌, cond, Bool, true, false, List, Some, drop, length, slice_get, vec_capacity}
 use Rattle.std.specs.List.{insert, remove}
-use Rattle.tv_ready.specs.Listed.{Listed, with_job}
+use Rattle.tv_idle.specs.Listed.{Listed, with_job}
 use Rattle.tv_seats.specs.declared.stage.Stage.{Stage}
 use Rattle.tv_seats.specs.declared.stage.Stage.TheVariants as stage
 use Rattle.tv_seats.specs.declared.steps.StepSeats.{StepSeats}

@@ -6,7 +6,7 @@ ghost use Rattle.tv_seats.specs.Starts.{IsEmptyStep};
 
 use crate::stage::Stage;
 use std::alloc::Global;
-use tv_ready::Ready;
+use tv_idle::Ready;
 use tv_value::NoMemory;
 
 /// Of one step, in order of place: its idle jobs, those that were set aside, and those whose flow is open; and how many run, and how

@@ -12,15 +12,15 @@ use Rattle.tv_telling.specs.declared.ways.Event.{Event}
 use Rattle.tv_telling.specs.declared.ways.Way.{Way}
 use Rattle.tv_telling.specs.declared.ways.Whole.{Whole}
 use Rattle.tv_telling.specs.Views.{HasOutput, way_tellings, whole_telling}
-use Rattle.tv_wires.specs.declared.feeds.NumberedLink.{NumberedLink}
-use Rattle.tv_wires.specs.declared.feeds.NumberedLink.TheVariants.{Input, Output}
-use Rattle.tv_wires.specs.declared.feeds.NumberedFeed.{NumberedFeed}
-use Rattle.tv_wires.specs.declared.feeds.NumberedFeed.TheVariants.{Link, Merge, Constant}
-use Rattle.tv_wires.specs.declared.ports.Port.{Port}
-use Rattle.tv_wires.specs.declared.wires.Wire.{Wire}
-use Rattle.tv_wires.specs.declared.wiring.Wiring.{Wiring}
-use Rattle.tv_wires.specs.Turned.{all_wires, from_each}
-use Rattle.tv_endings.specs.Ends.{is_whole}
+use Rattle.tv_check.specs.declared.feeds.NumberedLink.{NumberedLink}
+use Rattle.tv_check.specs.declared.feeds.NumberedLink.TheVariants.{Input, Output}
+use Rattle.tv_check.specs.declared.feeds.NumberedFeed.{NumberedFeed}
+use Rattle.tv_check.specs.declared.feeds.NumberedFeed.TheVariants.{Link, Merge, Constant}
+use Rattle.tv_check.specs.declared.ports.Port.{Port}
+use Rattle.tv_check.specs.declared.wires.Wire.{Wire}
+use Rattle.tv_check.specs.declared.wiring.Wiring.{Wiring}
+use Rattle.tv_check.specs.Turned.{all_wires, from_each}
+use Rattle.tv_telling.specs.endings.Ends.{is_whole}
 use Rattle.tv_outputs.specs.Known.{known, tree_in}
 use Rattle.tv_outputs.specs.Kept.{Stand}
 use Rattle.tv_spread.specs.declared.around.Around.{Around}

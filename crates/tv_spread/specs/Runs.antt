@@ -1,6 +1,6 @@
 -- Wires sorted by the step that they feed.
 use Rattle.std.specs.Prelude.{◌≡◌, ℕ, ◌≤◌, List, [], ◌∷◌}
-use Rattle.tv_wires.specs.declared.wires.Wire.{Wire}
+use Rattle.tv_check.specs.declared.wires.Wire.{Wire}
 
 -- the first of them doesn't feed this step
 abbrev pub StartsElsewhere : ℕ → List Wire → Type 0

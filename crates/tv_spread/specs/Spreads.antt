@@ -12,7 +12,7 @@ use Rattle.tv_match.specs.Seen.{in_order, matching}
 use Rattle.tv_match.specs.declared.matchers.Matcher.{Matcher}
 use Rattle.tv_telling.specs.declared.ways.Event.{Event}
 use Rattle.tv_telling.specs.Views.{AreTellings}
-use Rattle.tv_wires.specs.declared.ports.Port.{Port}
+use Rattle.tv_check.specs.declared.ports.Port.{Port}
 use Rattle.tv_intake.specs.declared.intakes.Intakes.{Intakes}
 use Rattle.tv_intake.specs.Sorting.{job_places, jobs_among, others_among}
 use Rattle.tv_intake.specs.Intaken.{CanHold, CanShow, HasRoom, IsMadeAt, brought_at, faulty_ahead_at, matcher_at}

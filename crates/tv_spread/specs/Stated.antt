@@ -10,10 +10,10 @@ use Rattle.tv_match.specs.declared.matchers.Matcher.{Matcher}
 use Rattle.tv_match.specs.Seen.{in_order, matching}
 use Rattle.tv_telling.specs.declared.ways.Event.{Event}
 use Rattle.tv_telling.specs.declared.ways.Whole.{Whole}
-use Rattle.tv_wires.specs.declared.ports.Port.{Port}
-use Rattle.tv_wires.specs.Wirings.{wiring}
-use Rattle.tv_endings.specs.Ends.{is_whole}
-use Rattle.tv_endings.specs.Feeds.{leaves_whole_with}
+use Rattle.tv_check.specs.declared.ports.Port.{Port}
+use Rattle.tv_check.specs.Wirings.{wiring}
+use Rattle.tv_telling.specs.endings.Ends.{is_whole}
+use Rattle.tv_telling.specs.endings.Feeds.{leaves_whole_with}
 use Rattle.tv_intake.specs.declared.intakes.Intakes.{Intakes}
 use Rattle.tv_intake.specs.Intaken.{brought_at, matcher_at}
 use Rattle.tv_idle.specs.Idles.{Idles, of_step, without}
@@ -21,7 +21,7 @@ use Rattle.tv_spread.specs.declared.around.Around.{Around}
 use Rattle.tv_spread.specs.Arounds.{AreWires, is_told, told_at, told_steps, wholes_among}
 use Rattle.tv_spread.specs.Spreads.{CanShowAll, HoldTold, MakeAll, binds_fault, is_faulty_now}
 
--- the ports that have their whole values are those that `tv_endings` lists, where the event makes its step whole
+-- the ports that have their whole values are those that `tv_telling` lists, where the event makes its step whole
 abbrev pub WholesAreLeaves : Type 0
 WholesAreLeaves =
     (a : Around) (s : ℕ) (e : Event) (ps : List Port)

@@ -2,12 +2,12 @@
 use Rattle.std.specs.List.{list_any}
 use Rattle.std.specs.Prelude.{ℕ, Bool, false, List, filter, map}
 use Rattle.tv_telling.specs.declared.ways.Whole.{Whole}
-use Rattle.tv_wires.specs.declared.feeds.NumberedLink.{NumberedLink}
-use Rattle.tv_wires.specs.declared.feeds.NumberedLink.TheVariants.{Input, Output}
-use Rattle.tv_wires.specs.declared.feeds.NumberedFeed.{NumberedFeed}
-use Rattle.tv_wires.specs.declared.feeds.NumberedFeed.TheVariants.{Link, Merge, Constant}
-use Rattle.tv_wires.specs.declared.ports.Port.{Port}
-use Rattle.tv_endings.specs.Feeds.{has_whole_with}
+use Rattle.tv_check.specs.declared.feeds.NumberedLink.{NumberedLink}
+use Rattle.tv_check.specs.declared.feeds.NumberedLink.TheVariants.{Input, Output}
+use Rattle.tv_check.specs.declared.feeds.NumberedFeed.{NumberedFeed}
+use Rattle.tv_check.specs.declared.feeds.NumberedFeed.TheVariants.{Link, Merge, Constant}
+use Rattle.tv_check.specs.declared.ports.Port.{Port}
+use Rattle.tv_telling.specs.endings.Feeds.{has_whole_with}
 
 -- ---- whether what a feed delivers holds a fault, from which inputs and outputs hold one
 

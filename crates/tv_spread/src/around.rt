@@ -7,11 +7,10 @@ ghost use Rattle.tv_outputs.specs.Kept.{Stand};
 ghost use Rattle.tv_spread.specs.Arounds.{IsFed, IsLinked, delivers_fault, input_faulty, output_faulty, wholes_among};
 ghost use Rattle.tv_spread.specs.Wholes.{link_faulty};
 
-use tv_endings::{Endings, has_whole};
+use tv_check::{NumberedFeed, NumberedLink, Port, Wire, Wiring};
 use tv_outputs::{Nodes, Outputs};
-use tv_telling::{Event, Whole};
+use tv_telling::{Endings, Event, Whole, has_whole};
 use tv_value::NoMemory;
-use tv_wires::{NumberedFeed, NumberedLink, Port, Wire, Wiring};
 
 /// What a step's ports are looked up in.
 #[derive(Clone, Copy)]

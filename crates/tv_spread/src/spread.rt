@@ -16,12 +16,12 @@ use crate::around::{Around, push_wholes};
 use crate::wires::{push_ways, run_length, wires_along};
 use std::alloc::Global;
 use std::mem;
+use tv_check::Wire;
 use tv_idle::Idle;
 use tv_intake::Intakes;
 use tv_match::Tolds;
 use tv_telling::{Event, Way, Whole, tellings_with};
 use tv_value::{NoMemory, Sequence};
-use tv_wires::Wire;
 
 /// What is told with an event, step by step: working room, and the steps that hold it.
 #[derive(Drop)]

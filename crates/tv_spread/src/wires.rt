@@ -7,9 +7,9 @@ ghost use Rattle.tv_spread.specs.Runs.{StartsElsewhere};
 
 use crate::around::Around;
 use std::alloc::Global;
+use tv_check::{Wire, Wiring};
 use tv_telling::{Event, Way};
 use tv_value::NoMemory;
-use tv_wires::{Wire, Wiring};
 
 /// For each step the wires from it into ports that walk some levels, in their order. Linear in all
 /// wires and in the steps.

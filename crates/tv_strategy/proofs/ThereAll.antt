@@ -14,9 +14,9 @@ use Rattle.tv_strategy.specs.Splits.{split, split_cross, split_dot}
 use Rattle.tv_strategy.specs.Levels.{IsJob}
 use Rattle.tv_strategy.specs.Stated.{JobStandsWhereAllAreThere}
 use Rattle.tv_strategy.proofs.AtPlace.{item_at-map}
-use Rattle.tv_strategy.proofs.OfEnds.{item_at-walk_each}
-use Rattle.tv_strategy.proofs.OfLists.{crossed-there, paired-there}
-use Rattle.tv_strategy.proofs.OfJoins.{length-front, length-back}
+use Rattle.tv_strategy.proofs.Ends.{item_at-walk_each}
+use Rattle.tv_strategy.proofs.Lists.{crossed-there, paired-there}
+use Rattle.tv_strategy.proofs.Joins.{length-front, length-back}
 
 pub record JobThere (o : Option Iteration) : Type 0 where
   pub sources : List Origin

@@ -11,12 +11,12 @@ use Rattle.tv_parts.specs.Partials.{Partial, wanting, item, growing, closed, Par
 use Rattle.tv_parts.specs.Changes.{filled, arrive, close_here, close_at, CanArrive, CanClose}
 use Rattle.tv_parts.proofs.Wholeness.{whole-counts}
 use Rattle.tv_pool.specs.Pool.{Pool, item_in}
-use Rattle.tv_nodes.specs.declared.nodes.Entry.{Entry}
-use Rattle.tv_nodes.specs.Nodes.{part_in, body_in}
-use Rattle.tv_nodes.specs.Stands.{Spot, AreNodes, with_spot}
-use Rattle.tv_nodes.specs.Calls.{Sets, HangsPart, KeepsRegions}
-use Rattle.tv_nodes.proofs.Hanging.{spot-here, spot-other}
-use Rattle.tv_nodes.proofs.Ways.{part-spot}
+use Rattle.tv_stream.specs.declared.nodes.Entry.{Entry}
+use Rattle.tv_stream.specs.nodes.Nodes.{part_in, body_in}
+use Rattle.tv_stream.specs.nodes.Stands.{Spot, AreNodes, with_spot}
+use Rattle.tv_stream.specs.nodes.Calls.{Sets, HangsPart, KeepsRegions}
+use Rattle.tv_stream.proofs.Hanging.{spot-here, spot-other}
+use Rattle.tv_stream.proofs.NodeWays.{part-spot}
 use Rattle.tv_stream.specs.declared.held.Held.{Held}
 use Rattle.tv_stream.specs.declared.held.Part.{Part}
 use Rattle.tv_stream.specs.declared.held.Counts.{Counts}

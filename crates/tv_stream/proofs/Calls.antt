@@ -6,10 +6,10 @@ use Rattle.tv_parts.specs.Partials.{Partial, wanting, item, growing, closed, Par
 use Rattle.tv_parts.specs.Changes.{MayClose}
 use Rattle.tv_parts.proofs.Changes.{arrive-there, close-there}
 use Rattle.tv_pool.specs.Pool.{Pool, item_in, region_of, slot_of}
-use Rattle.tv_nodes.specs.declared.nodes.Entry.{Entry}
-use Rattle.tv_nodes.specs.Stands.{Spot, AreNodes, with_spot}
-use Rattle.tv_nodes.specs.Calls.{root_spot, Plants}
-use Rattle.tv_nodes.proofs.Hanging.{spot-here, spot-other}
+use Rattle.tv_stream.specs.declared.nodes.Entry.{Entry}
+use Rattle.tv_stream.specs.nodes.Stands.{Spot, AreNodes, with_spot}
+use Rattle.tv_stream.specs.nodes.Calls.{root_spot, Plants}
+use Rattle.tv_stream.proofs.Hanging.{spot-here, spot-other}
 use Rattle.tv_stream.specs.declared.held.Held.{Held}
 use Rattle.tv_stream.specs.declared.partial.Partial.{Partial as Handle}
 use Rattle.tv_stream.specs.declared.refusals.ArriveRefused.{ArriveRefused}

@@ -6,10 +6,10 @@ use Rattle.tv_parts.specs.Partials.{Partial, Parts, no_parts, part, part_count, 
 use Rattle.tv_parts.specs.Changes.{with_part, arrive, close_at, CanArrive, CanClose}
 use Rattle.tv_parts.proofs.Changes.{arrive-not_whole, close-not_whole}
 use Rattle.tv_parts.proofs.Wholeness.{count-with}
-use Rattle.tv_nodes.specs.declared.nodes.Entry.{Entry}
-use Rattle.tv_nodes.specs.Nodes.{part_in, body_in}
-use Rattle.tv_nodes.specs.Stands.{Spot, AreNodes}
-use Rattle.tv_nodes.specs.Calls.{Sets}
+use Rattle.tv_stream.specs.declared.nodes.Entry.{Entry}
+use Rattle.tv_stream.specs.nodes.Nodes.{part_in, body_in}
+use Rattle.tv_stream.specs.nodes.Stands.{Spot, AreNodes}
+use Rattle.tv_stream.specs.nodes.Calls.{Sets}
 use Rattle.tv_stream.specs.declared.held.Held.{Held}
 use Rattle.tv_stream.specs.declared.held.Counts.{Counts}
 use Rattle.tv_stream.specs.Trees.{Marked, count_of, list_of, optional, parts_by, tree_by, tree_at, least_whole}

@@ -11,3 +11,11 @@ pub mod Calls
 pub mod Others
 pub mod Mapped
 pub mod NodeCounts
+pub mod Digits
+pub mod Seeks
+pub mod NodeWays
+pub mod Hanging
+pub mod Bodies
+pub mod NodeCalls
+pub mod Apart
+pub mod Counts

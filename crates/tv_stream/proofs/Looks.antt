@@ -7,10 +7,10 @@ use Rattle.tv_lemmas.proofs.Options.{some-not_none}
 use Rattle.tv_parts.specs.Partials.{Partial, wanting, Parts, no_parts, part_at, whole, all_whole, holds_some}
 use Rattle.tv_parts.specs.Changes.{filled, arrive, close_at, CanArrive, CanClose}
 use Rattle.tv_parts.proofs.Changes.{arrive-not_whole, close-not_whole}
-use Rattle.tv_nodes.specs.declared.nodes.Entry.{Entry}
-use Rattle.tv_nodes.specs.Nodes.{part_in, body_in}
-use Rattle.tv_nodes.specs.Stands.{Spot}
-use Rattle.tv_nodes.proofs.Ways.{part-spot}
+use Rattle.tv_stream.specs.declared.nodes.Entry.{Entry}
+use Rattle.tv_stream.specs.nodes.Nodes.{part_in, body_in}
+use Rattle.tv_stream.specs.nodes.Stands.{Spot}
+use Rattle.tv_stream.proofs.NodeWays.{part-spot}
 use Rattle.tv_stream.specs.declared.held.Held.{Held}
 use Rattle.tv_stream.specs.declared.held.Part.{Part}
 use Rattle.tv_stream.specs.declared.held.Counts.{Counts}

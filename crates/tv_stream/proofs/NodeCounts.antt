@@ -4,10 +4,10 @@ use Rattle.tv_lemmas.proofs.Numbers.{is-plus_zero}
 use Rattle.tv_parts.specs.Partials.{Partial, wanting, item, growing, closed, Parts, no_parts, part, part_of, part_at, map_partial, map_parts}
 use Rattle.tv_parts.specs.Changes.{with_part, filled, arrive, close_here, close_at, CanArrive, CanClose}
 use Rattle.tv_pool.specs.Pool.{Pool}
-use Rattle.tv_nodes.specs.declared.nodes.Entry.{Entry}
-use Rattle.tv_nodes.specs.Nodes.{part_in, body_in}
-use Rattle.tv_nodes.specs.Stands.{Spot, AreNodes}
-use Rattle.tv_nodes.specs.Calls.{count_in}
+use Rattle.tv_stream.specs.declared.nodes.Entry.{Entry}
+use Rattle.tv_stream.specs.nodes.Nodes.{part_in, body_in}
+use Rattle.tv_stream.specs.nodes.Stands.{Spot, AreNodes}
+use Rattle.tv_stream.specs.nodes.Calls.{count_in}
 use Rattle.tv_stream.specs.declared.held.Held.{Held}
 use Rattle.tv_stream.specs.Trees.{Marked, optional, tree_at}
 use Rattle.tv_stream.specs.Inside.{has_index, InTree, Parted}

@@ -4,9 +4,9 @@ use Rattle.std.proofs.lemmas.List.{get_or-set_other}
 use Rattle.std.specs.Option.{option_map}
 use Rattle.tv_lemmas.proofs.Options.{some-not_none}
 use Rattle.tv_pool.specs.Pool.{Pool, item_in, lying_in, stored_in, region_at, regions_with, region_of, slot_of}
-use Rattle.tv_nodes.specs.declared.nodes.Entry.{Entry}
-use Rattle.tv_nodes.specs.Stands.{Spot}
-use Rattle.tv_nodes.proofs.Apart.{nodes-stay, parts-stay}
+use Rattle.tv_stream.specs.declared.nodes.Entry.{Entry}
+use Rattle.tv_stream.specs.nodes.Stands.{Spot}
+use Rattle.tv_stream.proofs.Apart.{nodes-stay, parts-stay}
 use Rattle.tv_stream.specs.declared.held.Held.{Held}
 use Rattle.tv_stream.specs.declared.partial.Partial.{Partial as Handle}
 use Rattle.tv_stream.specs.Trees.{memory_of}

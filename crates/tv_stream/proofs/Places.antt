@@ -3,8 +3,8 @@ use Rattle.std.proofs.Common.{◌≡◌, ℕ, ◌<◌, nat_lt, Bool, true, false
 use Rattle.std.proofs.lemmas.Bool.{false≢true}
 use Rattle.tv_parts.specs.Partials.{Partial, wanting, part_count, part_of, part_at, known_at}
 use Rattle.tv_parts.specs.Changes.{is_place, CanArrive, CanClose}
-use Rattle.tv_nodes.specs.declared.nodes.Entry.{Entry}
-use Rattle.tv_nodes.specs.Nodes.{part_in}
+use Rattle.tv_stream.specs.declared.nodes.Entry.{Entry}
+use Rattle.tv_stream.specs.nodes.Nodes.{part_in}
 use Rattle.tv_stream.specs.declared.held.Held.{Held}
 use Rattle.tv_stream.specs.declared.held.Part.{Part}
 use Rattle.tv_stream.specs.declared.held.Counts.{Counts}

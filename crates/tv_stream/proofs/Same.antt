@@ -2,10 +2,10 @@
 use Rattle.std.proofs.Common.{◌≡◌, ℕ, zero, suc, ◌<◌, ◌≤◌, arith, Bool, List, [], ◌∷◌, ◌++◌, refl, sym, ap, ◌∙◌, Option, Some, None, append_assoc}
 use Rattle.std.proofs.lemmas.List.{append-nil}
 use Rattle.tv_parts.specs.Partials.{Partial, wanting, Parts, part_of, part_at, whole_count, some_holds}
-use Rattle.tv_nodes.specs.declared.nodes.Entry.{Entry}
-use Rattle.tv_nodes.specs.Nodes.{part_in, body_in}
-use Rattle.tv_nodes.specs.Stands.{Spot, AreNodes}
-use Rattle.tv_nodes.proofs.Ways.{part-spot}
+use Rattle.tv_stream.specs.declared.nodes.Entry.{Entry}
+use Rattle.tv_stream.specs.nodes.Nodes.{part_in, body_in}
+use Rattle.tv_stream.specs.nodes.Stands.{Spot, AreNodes}
+use Rattle.tv_stream.proofs.NodeWays.{part-spot}
 use Rattle.tv_stream.specs.declared.held.Held.{Held}
 use Rattle.tv_stream.specs.declared.held.Part.{Part}
 use Rattle.tv_stream.specs.declared.held.Counts.{Counts}

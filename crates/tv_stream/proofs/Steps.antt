@@ -7,11 +7,11 @@ use Rattle.std.proofs.lemmas.Option.{same_Some}
 use Rattle.tv_lemmas.proofs.Options.{some-not_none}
 use Rattle.tv_parts.specs.Partials.{Partial, Parts, wanting, part_at, whole, holds_some}
 use Rattle.tv_parts.specs.Changes.{with_part}
-use Rattle.tv_nodes.specs.declared.nodes.Entry.{Entry}
-use Rattle.tv_nodes.specs.Nodes.{part_in, body_in}
-use Rattle.tv_nodes.specs.Stands.{Spot, AreNodes}
-use Rattle.tv_nodes.specs.Calls.{Sets}
-use Rattle.tv_nodes.proofs.Ways.{part-spot}
+use Rattle.tv_stream.specs.declared.nodes.Entry.{Entry}
+use Rattle.tv_stream.specs.nodes.Nodes.{part_in, body_in}
+use Rattle.tv_stream.specs.nodes.Stands.{Spot, AreNodes}
+use Rattle.tv_stream.specs.nodes.Calls.{Sets}
+use Rattle.tv_stream.proofs.NodeWays.{part-spot}
 use Rattle.tv_stream.specs.declared.held.Held.{Held}
 use Rattle.tv_stream.specs.declared.held.Part.{Part}
 use Rattle.tv_stream.specs.declared.held.Counts.{Counts}

@@ -5,9 +5,9 @@ use Rattle.tv_pool.specs.Pool.{Pool, item_in}
 use Rattle.tv_parts.specs.Partials.{Partial, wanting, item, growing, closed, Parts, part_at, known_at, whole_count, part_count}
 use Rattle.tv_parts.specs.Changes.{is_place, CanArrive, CanClose}
 use Rattle.tv_parts.proofs.Wholeness.{whole-counts}
-use Rattle.tv_nodes.specs.declared.nodes.Entry.{Entry}
-use Rattle.tv_nodes.specs.Nodes.{part_in, body_in}
-use Rattle.tv_nodes.specs.Stands.{Spot, AreNodes, IsNode}
+use Rattle.tv_stream.specs.declared.nodes.Entry.{Entry}
+use Rattle.tv_stream.specs.nodes.Nodes.{part_in, body_in}
+use Rattle.tv_stream.specs.nodes.Stands.{Spot, AreNodes, IsNode}
 use Rattle.tv_stream.specs.declared.held.Held.{Held}
 use Rattle.tv_stream.specs.declared.refusals.ArriveRefused.{ArriveRefused}
 use Rattle.tv_stream.specs.declared.refusals.ArriveRefused.TheVariants.{NoSuchPlace, Occupied, NoMemory}

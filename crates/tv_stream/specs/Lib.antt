@@ -5,3 +5,4 @@ pub mod Answers
 pub mod Inside
 pub mod Looks
 pub mod NodeCounts
+pub mod nodes

@@ -1,9 +1,9 @@
 //! What changes a partial tree, from a node of it on.
 ghost use Rattle.std.specs.Prelude.{◌≡◌, ◌≢◌, ℕ, ◌+◌, ◌≤◌, ◌<◌, ◌^◌, ◌⊎◌, ◌==◌, if◌then◌else◌, Bool, Some, None, Option, length as count, [], IfOk, IfErr, OnOk, OnErr};
 ghost use Rattle.tv_pool.specs.Pool.{IsLive, item_in, number_of, lies_at};
-ghost use Rattle.tv_nodes.specs.Nodes.{part_in, body_in};
-ghost use Rattle.tv_nodes.specs.Stands.{Spot, AreNodes, IsNode};
-ghost use Rattle.tv_nodes.specs.Calls.{KeepsRegions, Sets, count_in};
+ghost use Rattle.tv_stream.specs.nodes.Nodes.{part_in, body_in};
+ghost use Rattle.tv_stream.specs.nodes.Stands.{Spot, AreNodes, IsNode};
+ghost use Rattle.tv_stream.specs.nodes.Calls.{KeepsRegions, Sets, count_in};
 ghost use Rattle.tv_parts.specs.Changes.{arrive, close_at, CanArrive, CanClose};
 ghost use Rattle.tv_stream.specs.Trees.{Marked, tree_at, least_whole};
 ghost use Rattle.tv_stream.specs.Answers.{marked_item};
@@ -13,7 +13,7 @@ ghost use Rattle.tv_stream.specs.Inside.{counts_with, counts_whole, counts_in, n
 use crate::held::{Held, Part};
 use crate::partial::Slot;
 use crate::refusals::{ArriveRefused, CloseRefused};
-use tv_nodes::{Stop, body, hang, seek, set_body};
+use crate::{Stop, body, hang, seek, set_body};
 use tv_pool::{Link, NoMemory, Pool, Region};
 
 /// The part of a node at an index, where a node that holds nothing hangs if there was none. Takes room for `room` nodes first.

@@ -7,7 +7,7 @@ ghost use Rattle.tv_stream.specs.Stands.{is_marked};
 ghost use Rattle.tv_stream.specs.Inside.{IsAt};
 
 use crate::partial::Slot;
-use tv_nodes::{Stop, body, seek};
+use crate::{Stop, body, seek};
 use tv_pool::{Link, Pool};
 
 /// At how many prefixes of a place, seen from a node, a marked item stands there or inside.

@@ -21,7 +21,7 @@
 //! (`KeepsTrees` in `specs/Stands.antt`); what lies in all other slots of the region stays, and so do all other regions. So a
 //! tree stays what it is while others start and grow, and while other regions are released (`laws`).
 //!
-//! **How it is laid out.** Each part is a node of `tv_nodes`. A list counts its whole parts, so each list becomes whole once,
+//! **How it is laid out.** Each part is a node (`nodes`). A list counts its whole parts, so each list becomes whole once,
 //! and nothing is walked from scratch. `proofs/Steps.antt` shows that a change of a part, once it is counted, is that change of
 //! the list.
 //!
@@ -32,6 +32,20 @@
 //! - `look`: a look at a tree, from part to part
 //! - `refusals`: why a call is refused
 //! - `laws`: what stays of other trees, and what holds of all trees that change
+//!
+//! **Nodes** (`nodes`, `specs/nodes/`): trees of nodes in a region of a pool, where each node has numbered parts.
+//!
+//! A node holds a body of the caller's. Its parts have numbers below 2^32, with gaps or without, and are put in any order. A
+//! part is found in logarithmic time whatever the order: the parts of one node are a digital search tree of base 4 over their
+//! numbers, one pool node a part, and no node moves.
+//!
+//! A contract sees which part of a node lies in which slot, and what a node holds (`part_in` and `body_in`,
+//! `specs/nodes/Nodes.antt`). `hang` adds one part of one node, `set_body` exchanges one body, and nothing else changes, in this
+//! region or in any other (`specs/nodes/Calls.antt`). Trees stand on slots of their own: `AreNodes` (`specs/nodes/Stands.antt`) gives each
+//! slot the place of its node, so that a caller tells nodes of one tree from each other, and from those of another.
+//!
+//! A node has five links: to the first of its own parts, and by the next digit of their numbers to four
+//! others of the list that it is in. A search ends after 17 nodes at most, since two numbers of 16 equal digits are one.
 #![tactic(auto)]
 
 mod changes;
@@ -39,10 +53,12 @@ mod held;
 pub mod laws;
 mod levels;
 mod look;
+mod nodes;
 mod partial;
 mod refusals;
 
 pub use held::{Held, PartKind};
 pub use look::Look;
+pub use nodes::{Entry, Gap, Stop, body, hang, plant, seek, set_body};
 pub use partial::{Partial, Slot};
 pub use refusals::{ArriveRefused, CloseRefused};

@@ -7,7 +7,7 @@ ghost use Rattle.tv_stream.specs.Trees.{Marked};
 
 use crate::held::{Part, PartKind};
 use crate::partial::Slot;
-use tv_nodes::{Stop, body, seek};
+use crate::{Stop, body, seek};
 use tv_pool::{Link, Pool};
 
 /// What is known at a node of a tree, and inside. `Partial::look` begins at the top, and `part` goes on: so no place has to be

@@ -1,7 +1,7 @@
 //! A partial tree, and its calls.
 ghost use Rattle.std.specs.Prelude.{◌≡◌, ◌≢◌, ℕ, ◌+◌, ◌≤◌, ◌<◌, Bool, false, Some, None, length, nat_lt, take, IfOk, IfErr, OnOk, OnErr, MatchOption};
 ghost use Rattle.tv_pool.specs.Pool.{IsLive, lies_at, number_of};
-ghost use Rattle.tv_nodes.specs.Calls.{KeepsRegions, count_in};
+ghost use Rattle.tv_stream.specs.nodes.Calls.{KeepsRegions, count_in};
 ghost use Rattle.tv_parts.specs.Partials.{wanting, known_at, whole as is_whole_tree, holds_some};
 ghost use Rattle.tv_parts.specs.Changes.{arrive as arrived, close_at, CanArrive, CanClose};
 ghost use Rattle.tv_stream.specs.Trees.{Marked, memory_of, tree_of, least_whole};
@@ -16,8 +16,8 @@ use crate::held::{Held, Part, PartKind};
 use crate::levels::marked_in;
 use crate::look::Look;
 use crate::refusals::{ArriveRefused, CloseRefused};
+use crate::{Entry, Stop, body, plant, seek};
 use std::marker::PhantomData;
-use tv_nodes::{Entry, Stop, body, plant, seek};
 use tv_pool::{Link, NoMemory, Node, Pool, Region};
 use tv_value::Place;
 

@@ -1,5 +1,11 @@
 pub mod Adding
-pub mod OfValues
-pub mod OfWays
-pub mod OfSizes
-pub mod OfOpenings
+pub mod Values
+pub mod WayLemmas
+pub mod Sizes
+pub mod Openings
+pub mod Counts
+pub mod Turns
+pub mod Lowering
+pub mod WholePorts
+pub mod Rows
+pub mod Feeds

@@ -1,8 +1,8 @@
 -- The ways that lead from a step to another, along its wires.
 use Rattle.std.specs.Prelude.{ℕ, ◌-◌, ◌==◌, ◌&&◌, not, Bool, List, [], filter, map, Option, Some, None, slice_index_or}
 use Rattle.tv_telling.specs.declared.ways.Way.{Way}
-use Rattle.tv_wires.specs.declared.wires.Wire.{Wire}
-use Rattle.tv_wires.specs.declared.wiring.Wiring.{Wiring}
+use Rattle.tv_check.specs.declared.wires.Wire.{Wire}
+use Rattle.tv_check.specs.declared.wiring.Wiring.{Wiring}
 
 -- how many levels a port walks of what a link brings: a merge's own list is one more
 abbrev pub levels_walked : ℕ → Option ℕ → ℕ

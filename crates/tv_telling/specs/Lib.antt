@@ -3,3 +3,4 @@ pub mod WayTellings
 pub mod Views
 pub mod Openings
 pub mod Along
+pub mod endings

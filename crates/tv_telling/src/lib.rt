@@ -15,14 +15,17 @@
 //! - `telling`: one telling, at the end of a list
 //! - `walking`: all that is told of a value
 //! - `events`: all that is told with an event
+//! - `endings` (`specs/endings/`): which steps of an instance have ended, by counters, and which ports have all that feeds them
 #![tactic(auto)]
 
+pub mod endings;
 mod events;
 mod opening;
 mod telling;
 mod walking;
 mod ways;
 
+pub use endings::{Endings, first_ready, has_whole, is_whole_with};
 pub use events::{tell_known, tellings_with};
 pub use opening::port_start;
 pub use ways::{Event, Happened, Way, Whole};

@@ -8,7 +8,7 @@ ghost use Rattle.tv_value.specs.Views.{view};
 ghost use Rattle.tv_cell.specs.PieceValues.{piece_value};
 ghost use Rattle.tv_matching.specs.Matchers.{leaf_name};
 ghost use Rattle.tv_match.specs.Seen.{told_view};
-ghost use Rattle.tv_wires.specs.declared.feeds.NumberedFeed.TheVariants.{Merge};
+ghost use Rattle.tv_check.specs.declared.feeds.NumberedFeed.TheVariants.{Merge};
 ghost use Rattle.tv_telling.specs.ValueTellings.{bound_told, value_told};
 ghost use Rattle.tv_telling.specs.Views.{AddsTellings};
 ghost use Rattle.tv_telling.specs.WayTellings.{place_of_item};
@@ -16,11 +16,10 @@ ghost use Rattle.tv_telling.specs.Openings.{IsFedFrom, fixed_in, IsInput, is_num
 
 use crate::tell_known;
 use std::alloc::Global;
-use tv_cell::{Cell, Piece};
+use tv_cell::{Cell, Path, Piece};
+use tv_check::{NumberedFeed, NumberedLink, Port};
 use tv_match::Told;
-use tv_path::Path;
 use tv_value::{NoMemory, Place};
-use tv_wires::{NumberedFeed, NumberedLink, Port};
 
 /// Tells a port what is known of it when an instance opens on these inputs of its flow, in their order, each of which is said to
 /// hold a fault or none, behind what stands in the list. `fixed` is the port's constant, where its feed is one.

@@ -2,7 +2,7 @@
 use Rattle.std.specs.Prelude.{refl}
 use Rattle.std.specs.Fmt.{digits}
 use Rattle.json.specs.Print.{escape_byte}
-use Rattle.tv_words.proofs.OnLiterals.{words_on_literals}
+use Rattle.tv_words.proofs.Literals.{words_on_literals}
 use Rattle.tv_top.specs.Worked.{RunsOneText, RunsChain, RunsFailure, RunsCross, ChecksCross, ChecksChain, RefusesCircle, RefusesNoDocument, RefusesDepth, TakesCommands, TakesNothingElse, AsksChain, AsksFailure, AsksAttempts, AsksNoCheck, AsksGenerated, AsksForward, AsksLineage, LineageOfCross, LineageOfFailure, ForwardOfCross, RefusesElements, RunsNestedFlow, RunsGenerated, TracesAttempts, TracesChain, TracesFailure}
 
 pub runs_one_text : RunsOneText

@@ -5,7 +5,7 @@ pub mod Requests
 mod Computed
 pub mod Questions
 pub mod Traced
-mod OfNumbers
+mod Numbers
 mod Leaving
 mod Completed
-mod OfElements
+mod Elements

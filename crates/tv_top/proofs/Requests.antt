@@ -8,7 +8,7 @@ use Rattle.tv_value.specs.Values.{Name, Text, Value}
 use Rattle.tv_gate.specs.Calls.{Call, IsSameCalls}
 use Rattle.tv_gate.specs.Outcomes.{Giving}
 use Rattle.tv_flow.specs.Flows.{Document}
-use Rattle.tv_elements.specs.Lines.{element_lines}
+use Rattle.tv_words.specs.elements.Lines.{element_lines}
 use Rattle.tv_model.specs.Lineages as model
 use Rattle.tv_model.specs.Meanings.{meaning}
 use Rattle.tv_top.specs.Words.{Command, run, check, trace, lineage, forward, gen}

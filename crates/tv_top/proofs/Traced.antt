@@ -11,8 +11,8 @@ use Rattle.tv_model.specs.Jobs.{Job}
 use Rattle.tv_model.specs.Made.{Meaning}
 use Rattle.tv_model.specs.Meanings.{meaning}
 use Rattle.tv_model.specs.Turns.{ask_order}
-use Rattle.tv_history.specs.Tries.{NamedTry}
-use Rattle.tv_entries.specs.Runs.{Run, meant}
+use Rattle.tv_work.specs.Tries.{NamedTry}
+use Rattle.tv_work.specs.Runs.{Run, meant}
 use Rattle.tv_report.specs.TraceLines.{accepted_jobs}
 use Rattle.tv_work.specs.Asked.{accepted_tries}
 use Rattle.tv_work.specs.InOrder.{AcceptsInOrder, ask_of_try}

@@ -12,7 +12,7 @@ use Rattle.tv_flow.specs.Flows.{Document}
 use Rattle.tv_flow.specs.Forms.{form_of}
 use Rattle.tv_check.specs.Faulty as checking
 use Rattle.tv_check.specs.Passes.{checked}
-use Rattle.tv_elements.specs.Lines.{element_lines}
+use Rattle.tv_words.specs.elements.Lines.{element_lines}
 use Rattle.tv_model.specs.Lineages as model
 use Rattle.tv_model.specs.Meanings.{meaning}
 use Rattle.tv_model.specs.Results.{result_line}

@@ -7,7 +7,7 @@ use Rattle.tv_gate.specs.Outcomes.{Giving}
 use Rattle.tv_flow.specs.Flows.{Document}
 use Rattle.tv_model.specs.Meanings.{meaning}
 use Rattle.tv_model.specs.Turns.{ask_order}
-use Rattle.tv_history.specs.Alone.{IsFirstPart}
+use Rattle.tv_work.specs.Alone.{IsFirstPart}
 use Rattle.tv_work.specs.Asked.{call_of}
 use Rattle.tv_top.specs.Words.{Command, run, check, trace, lineage, forward, gen}
 use Rattle.tv_top.specs.Answers.{Reading, StatusLine, given_at, reading_for, answer_of}

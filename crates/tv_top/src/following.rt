@@ -15,11 +15,11 @@ use crate::refusal::Refusal;
 use crate::status::Status;
 use std::alloc::Global;
 use tv_check::CheckedRun;
-use tv_elements::label_lines;
 use tv_gate::Asker;
 use tv_json::element_text;
 use tv_lineage::{Labels, OutPlaces};
 use tv_value::{Name, NoMemory, Place, Text};
+use tv_words::label_lines;
 use tv_work::run_board;
 
 /// The lines of the elements of inputs that made an element of an output. It is looked for after the run.

@@ -28,5 +28,4 @@ mod words;
 
 pub use status::Status;
 pub use top::{taverna, taverna_alone};
-pub use tv_board::Board;
-pub use tv_work::run_alone;
+pub use tv_work::{Board, run_alone};

@@ -3,10 +3,10 @@ use Rattle.std.specs.Prelude.{◌≡◌, ℕ, ◌-◌, suc, Option, Some, None, 
 use Rattle.std.proofs.Common.{arith, sym, ap, subst, ◌∙◌}
 use Rattle.tv_value.specs.Nested.{Place}
 use Rattle.tv_lineage.specs.Kept.{Kept}
-use Rattle.tv_levels.specs.Levels as levels
-use Rattle.tv_levels.specs.Levels.{came, closed}
-use Rattle.tv_levels.specs.Views.{what_view}
-use Rattle.tv_levels.specs.declared.level.What.{What}
+use Rattle.tv_frame.specs.Levels as levels
+use Rattle.tv_frame.specs.Levels.{came, closed}
+use Rattle.tv_frame.specs.Views.{what_view}
+use Rattle.tv_frame.specs.declared.level.What.{What}
 use Rattle.tv_traces.specs.OfNodes.{IsBuilt, Telling}
 
 pub both-ok : {T E P Q R : Type 0} (r : Result T E) → (P → Q → R) → OnOk r P → OnOk r Q → OnOk r R

@@ -9,14 +9,14 @@ use Rattle.tv_lemmas.specs.Members.{In}
 use Rattle.tv_lemmas.proofs.Lists.{take-next}
 use Rattle.tv_value.specs.Nested.{Place}
 use Rattle.tv_value.specs.Orders.{place_cmp, same_name}
-use Rattle.tv_value.proofs.OfNames.{same_name-is, same_name-refl}
-use Rattle.tv_levels.specs.Levels as levels
-use Rattle.tv_levels.specs.Views.{level_view, what_view}
-use Rattle.tv_levels.specs.declared.level.Level.{Level}
-use Rattle.tv_levels.specs.declared.level.What.{What}
+use Rattle.tv_value.proofs.NameLemmas.{same_name-is, same_name-refl}
+use Rattle.tv_frame.specs.Levels as levels
+use Rattle.tv_frame.specs.Views.{level_view, what_view}
+use Rattle.tv_frame.specs.declared.level.Level.{Level}
+use Rattle.tv_frame.specs.declared.level.What.{What}
 use Rattle.tv_traces.specs.Tables.{IsFrom, IsTableOf}
 use Rattle.tv_traces.specs.Tabled.{told_in}
-use Rattle.tv_traces.proofs.OfGrowing.{in-end, in-front}
+use Rattle.tv_traces.proofs.GrowingLemmas.{in-end, in-front}
 use Rattle.tv_lineage.proofs.Seeing.{last as in-last}
 
 abbrev front : ℕ → Place → ℕ

@@ -11,9 +11,9 @@ use Rattle.tv_flow.specs.Flows as spec
 use Rattle.tv_flow.specs.Views.{flow_view, step_view}
 use Rattle.tv_flow.specs.declared.document.Flow.{Flow}
 use Rattle.tv_flow.specs.declared.document.Step.{Step}
-use Rattle.tv_wires.specs.declared.feeds.NumberedLink.{NumberedLink}
-use Rattle.tv_wires.specs.declared.feeds.NumberedFeed.{NumberedFeed}
-use Rattle.tv_wires.specs.declared.feeds.NumberedFeed.TheVariants.{Merge}
+use Rattle.tv_check.specs.declared.feeds.NumberedLink.{NumberedLink}
+use Rattle.tv_check.specs.declared.feeds.NumberedFeed.{NumberedFeed}
+use Rattle.tv_check.specs.declared.feeds.NumberedFeed.TheVariants.{Merge}
 use Rattle.tv_traces.specs.Feeds.{feed_told, input_told, link_told, output_told}
 use Rattle.tv_traces.specs.Shapes.{Shape, no_shape, reached}
 use Rattle.tv_traces.specs.Views.{node_view, shapes_view}

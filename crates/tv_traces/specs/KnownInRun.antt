@@ -4,10 +4,10 @@ use Rattle.tv_lemmas.specs.Members.{In}
 use Rattle.tv_value.specs.Nested.{Place}
 use Rattle.tv_value.specs.Values.{Name}
 use Rattle.tv_flow.specs.Flows.{Step}
-use Rattle.tv_instance.specs.ByResults.{step_of}
-use Rattle.tv_instance.specs.Events.{has_level, has_result, known_by}
-use Rattle.tv_framing.specs.Views.{InAll, View}
-use Rattle.tv_levels.specs.Levels.{FaultsAreKnown, Fit, IsAmong, Level}
+use Rattle.tv_model.specs.instance.ByResults.{step_of}
+use Rattle.tv_model.specs.instance.Events.{has_level, has_result, known_by}
+use Rattle.tv_frame.specs.FramingViews.{InAll, View}
+use Rattle.tv_frame.specs.Levels.{FaultsAreKnown, Fit, IsAmong, Level}
 use Rattle.tv_traces.specs.Seen.{Spot}
 
 -- the levels fit, and tell of each list that was closed and each fault that was passed, which came from a known one

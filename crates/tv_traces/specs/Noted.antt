@@ -7,7 +7,7 @@ use Rattle.tv_flow.specs.Flows.{Step}
 use Rattle.tv_lineage.specs.Lineages.{Record}
 use Rattle.tv_strategy.specs.Iterations.{Binding, Iteration, job}
 use Rattle.tv_strategy.specs.Origins.{Origin}
-use Rattle.tv_instance.specs.Steps.{bound_values}
+use Rattle.tv_model.specs.instance.Steps.{bound_values}
 use Rattle.tv_model.specs.Lineages.{used}
 use Rattle.tv_model.specs.records.Recorded.{mark_of}
 use Rattle.tv_traces.specs.Feeds.{job_at}

@@ -9,8 +9,8 @@ use Rattle.tv_lineage.specs.Lineages.{Record}
 use Rattle.tv_strategy.specs.Iterations.{Binding, Iteration, Iterations, job}
 use Rattle.tv_strategy.specs.Levels.{AllHaveLevels, HasLevels}
 use Rattle.tv_strategy.specs.Origins.{Origin}
-use Rattle.tv_wires.specs.declared.ports.Port.{Port}
-use Rattle.tv_levels.specs.Levels.{What}
+use Rattle.tv_check.specs.declared.ports.Port.{Port}
+use Rattle.tv_frame.specs.Levels.{What}
 use Rattle.tv_traces.specs.Feeds.{job_at}
 use Rattle.tv_traces.specs.Grouped.{Grows, IsGrouped, ItemsAreGrouped, StandFor}
 use Rattle.tv_traces.specs.Shapes.{Shape, ShowsKnown, shapes_used}

@@ -7,9 +7,9 @@ use Rattle.tv_value.specs.Values.{ErrorDoc, JobName, Name}
 use Rattle.tv_flow.specs.Flows.{Flow, Step}
 use Rattle.tv_strategy.specs.Iterations.{Binding, Iteration, Iterations, job, passed}
 use Rattle.tv_strategy.specs.Origins.{Mark, Origin, from_job}
-use Rattle.tv_instance.specs.Delivered.{StepMeaning}
-use Rattle.tv_instance.specs.Wholeness.{origin_at}
-use Rattle.tv_levels.specs.Levels.{CameFrom, Fit, IsAmong, IsFromKnown, IsNoJob, Level, What, came, closed}
+use Rattle.tv_model.specs.instance.Delivered.{StepMeaning}
+use Rattle.tv_model.specs.instance.Wholeness.{origin_at}
+use Rattle.tv_frame.specs.Levels.{CameFrom, Fit, IsAmong, IsFromKnown, IsNoJob, Level, What, came, closed}
 use Rattle.tv_traces.specs.Feeds.{job_at}
 use Rattle.tv_traces.specs.Walking.{IsFault, IsListOf}
 

@@ -3,8 +3,8 @@ use Rattle.std.specs.Prelude.{Bool, List, filter}
 use Rattle.tv_value.specs.Values.{JobName}
 use Rattle.tv_lineage.specs.Lineages.{Record}
 use Rattle.tv_model.specs.Made.{Meaning}
-use Rattle.tv_history.specs.Entries.{History}
-use Rattle.tv_history.specs.Histories.{is_settled_name}
+use Rattle.tv_forest.specs.HistoryEntries.{History}
+use Rattle.tv_forest.specs.Histories.{is_settled_name}
 use Rattle.tv_model.specs.records.Recorded.{main_records}
 
 -- of those of which a test is true

@@ -7,7 +7,7 @@ use Rattle.tv_lineage.specs.Kept.{Part, result}
 use Rattle.tv_lineage.specs.Touching.{Mark, made}
 use Rattle.tv_strategy.specs.Iterations.{Iteration, Iterations, job, passed}
 use Rattle.tv_strategy.specs.Origins.{Origin}
-use Rattle.tv_instance.specs.Wholeness.{is_whole_at}
+use Rattle.tv_model.specs.instance.Wholeness.{is_whole_at}
 use Rattle.tv_model.specs.Lineages.{mark_or}
 use Rattle.tv_model.specs.records.Recorded.{mark_of}
 

@@ -4,9 +4,9 @@ use Rattle.std.specs.BTreeSet.{BTreeSet, contains}
 use Rattle.std.specs.Prelude.{Bool, true, ◌∷◌, ℕ, Option, None, Some, option_map}
 use Rattle.tv_value.specs.Nested.{Place}
 use Rattle.tv_value.specs.Orders.{place_cmp}
-use Rattle.tv_levels.specs.Levels as levels
-use Rattle.tv_levels.specs.Levels.{closed}
-use Rattle.tv_levels.specs.declared.level.Level.{Level}
+use Rattle.tv_frame.specs.Levels as levels
+use Rattle.tv_frame.specs.Levels.{closed}
+use Rattle.tv_frame.specs.declared.level.Level.{Level}
 use Rattle.tv_traces.specs.Seen.{Spot}
 use Rattle.tv_traces.specs.Tables.{told_or}
 use Rattle.tv_traces.specs.Tabled.{told_in}

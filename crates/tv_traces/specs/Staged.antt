@@ -6,9 +6,9 @@ use Rattle.tv_gate.specs.Outcomes.{Giving}
 use Rattle.tv_flow.specs.Flows.{Document, Flow}
 use Rattle.tv_lineage.specs.Lineages.{Record}
 use Rattle.tv_strategy.specs.Origins.{Origin}
-use Rattle.tv_instance.specs.Ranks.{ranked}
-use Rattle.tv_instance.specs.ByResults.{InstanceStep, PlacedJob, Results, steps_by}
-use Rattle.tv_framing.specs.instances.OwnResults.{results_of}
+use Rattle.tv_model.specs.instance.Ranks.{ranked}
+use Rattle.tv_model.specs.instance.ByResults.{InstanceStep, PlacedJob, Results, steps_by}
+use Rattle.tv_frame.specs.instances.OwnResults.{results_of}
 use Rattle.tv_model.specs.Instances.{given_of, steps_made}
 use Rattle.tv_model.specs.Made.{Made}
 use Rattle.tv_model.specs.Meanings.{flow_meaning, meaning}

@@ -6,7 +6,7 @@ use Rattle.tv_value.specs.Values.{Name, Value}
 use Rattle.tv_flow.specs.Flows.{Flow, Step}
 use Rattle.tv_strategy.specs.Origins.{Origin}
 use Rattle.tv_naming.specs.Numbers.{position}
-use Rattle.tv_instance.specs.ByResults.{InstanceStep, outputs_by}
+use Rattle.tv_model.specs.instance.ByResults.{InstanceStep, outputs_by}
 use Rattle.tv_traces.specs.Feeds.{job_at}
 use Rattle.tv_traces.specs.Shapes.{Shape, ShowsKnown, no_shape}
 

@@ -10,18 +10,18 @@ use Rattle.tv_strategy.specs.Conditions.{number_of}
 use Rattle.tv_strategy.specs.Measures.{strategy_depth}
 use Rattle.tv_strategy.specs.Origins.{Origin}
 use Rattle.tv_naming.specs.Numbers.{position}
-use Rattle.tv_instance.specs.Delivered.{StepMeaning}
-use Rattle.tv_instance.specs.Ranks.{ranked}
-use Rattle.tv_instance.specs.Steps.{strategy_of}
-use Rattle.tv_wires.specs.Ports.{mismatches, ports_of}
-use Rattle.tv_instance.specs.Events.{known_by}
-use Rattle.tv_history.specs.Entries.{History}
-use Rattle.tv_history.specs.Histories.{is_settled_name}
-use Rattle.tv_framing.specs.Views.{View}
+use Rattle.tv_model.specs.instance.Delivered.{StepMeaning}
+use Rattle.tv_model.specs.instance.Ranks.{ranked}
+use Rattle.tv_model.specs.instance.Steps.{strategy_of}
+use Rattle.tv_check.specs.Ports.{mismatches, ports_of}
+use Rattle.tv_model.specs.instance.Events.{known_by}
+use Rattle.tv_forest.specs.HistoryEntries.{History}
+use Rattle.tv_forest.specs.Histories.{is_settled_name}
+use Rattle.tv_frame.specs.FramingViews.{View}
 use Rattle.tv_forest.specs.views.InRun.{IsInRun}
 use Rattle.tv_model.specs.Meanings.{meaning}
-use Rattle.tv_levels.specs.Levels.{AreLevels, Level, What}
-use Rattle.tv_levels.specs.MainSteps.{main_steps}
+use Rattle.tv_frame.specs.Levels.{AreLevels, Level, What}
+use Rattle.tv_frame.specs.MainSteps.{main_steps}
 use Rattle.tv_traces.specs.OfNodes.{IsBuilt}
 use Rattle.tv_traces.specs.KnownInRun.{AreJobsTold, AreLevelsTold}
 use Rattle.tv_traces.specs.Seen.{AreKnownBy, AreSeen, Spot}

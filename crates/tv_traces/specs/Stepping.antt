@@ -3,8 +3,8 @@ use Rattle.std.specs.Prelude.{Bool, List, Option}
 use Rattle.tv_value.specs.Nested.{Place}
 use Rattle.tv_value.specs.Values.{Name}
 use Rattle.tv_flow.specs.Flows.{Flow, Step}
-use Rattle.tv_wires.specs.Ports.{ports_of}
-use Rattle.tv_levels.specs.Levels.{What}
+use Rattle.tv_check.specs.Ports.{ports_of}
+use Rattle.tv_frame.specs.Levels.{What}
 use Rattle.tv_traces.specs.OfNodes.{Telling}
 use Rattle.tv_traces.specs.Shapes.{Shape}
 use Rattle.tv_traces.specs.Walking.{begins_of}

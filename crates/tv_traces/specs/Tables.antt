@@ -2,7 +2,7 @@
 use Rattle.std.specs.Prelude.{◌≡◌, ◌<◌, ◌⊎◌, ◌++◌, ◌∷◌, ℕ, suc, Bool, true, List, Option, Some, None}
 use Rattle.tv_lemmas.specs.Members.{In}
 use Rattle.tv_value.specs.Nested.{Place}
-use Rattle.tv_levels.specs.Levels.{IsAmong, Level, What, closed}
+use Rattle.tv_frame.specs.Levels.{IsAmong, Level, What, closed}
 
 -- the level that this tells of a place is one of them
 pub record IsFrom (ls : List Level) (n : ℕ) (q : Place) (w : What) : Type 0 where

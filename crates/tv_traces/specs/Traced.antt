@@ -8,8 +8,8 @@ use Rattle.tv_lineage.specs.Members.{HaveSame}
 use Rattle.tv_strategy.specs.Origins.{Origin}
 use Rattle.tv_model.specs.Meanings.{meaning}
 use Rattle.tv_model.specs.records.Recorded.{main_records}
-use Rattle.tv_levels.specs.Levels.{AreLevels, Level}
-use Rattle.tv_levels.specs.MainSteps.{main_steps}
+use Rattle.tv_frame.specs.Levels.{AreLevels, Level}
+use Rattle.tv_frame.specs.MainSteps.{main_steps}
 use Rattle.tv_traces.specs.Seen.{AreKnownBy, Spot}
 use Rattle.tv_traces.specs.Settled.{records_of_settled}
 use Rattle.tv_traces.specs.Staged.{steps_until}

@@ -9,14 +9,14 @@ use Rattle.tv_lineage.specs.Touching as marks
 use Rattle.tv_strategy.specs.Conditions.{number_of}
 use Rattle.tv_strategy.specs.Iterations.{Binding, Iteration, Iterations, job, passed}
 use Rattle.tv_strategy.specs.Origins.{Mark, Origin, from_job}
-use Rattle.tv_instance.specs.Steps.{bound_values, strategy_of}
-use Rattle.tv_wires.specs.declared.ports.Port.{Port}
-use Rattle.tv_wires.specs.Ports.{mismatches}
-use Rattle.tv_starts.specs.Starts.{starts}
-use Rattle.tv_instance.specs.Wholeness.{origin_at}
+use Rattle.tv_model.specs.instance.Steps.{bound_values, strategy_of}
+use Rattle.tv_check.specs.declared.ports.Port.{Port}
+use Rattle.tv_check.specs.Ports.{mismatches}
+use Rattle.tv_frame.specs.Starts.{starts}
+use Rattle.tv_model.specs.instance.Wholeness.{origin_at}
 use Rattle.tv_model.specs.Lineages.{mark_or, used}
 use Rattle.tv_model.specs.records.Recorded.{mark_of}
-use Rattle.tv_levels.specs.Levels.{What, came, closed}
+use Rattle.tv_frame.specs.Levels.{What, came, closed}
 use Rattle.tv_traces.specs.Feeds.{element_marks, element_parts, feed_told, job_at, node_marks, node_parts}
 use Rattle.tv_traces.specs.Shapes.{Shape}
 

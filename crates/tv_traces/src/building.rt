@@ -4,7 +4,7 @@ ghost use Rattle.tv_flow.specs.Views.{flow_view};
 ghost use Rattle.tv_lineage.specs.Views.{mark_view, part_view};
 ghost use Rattle.tv_traces.specs.Walking.{bound_parts, fault_marks, part_in};
 ghost use Rattle.tv_traces.specs.OfNodes.{IsBuilt, IsJobNoted};
-ghost use Rattle.tv_levels.specs.Levels.{closed};
+ghost use Rattle.tv_frame.specs.Levels.{closed};
 ghost use Rattle.tv_traces.specs.Building.{AreGrouped, telling};
 ghost use Rattle.tv_traces.specs.Sights.{what_in};
 ghost use Rattle.tv_traces.specs.Views.{node_view, shapes_view};
@@ -16,10 +16,10 @@ use crate::sight::Sight;
 use crate::used::push_feed_marks;
 use std::alloc::Global;
 use tv_cell::Row;
-use tv_levels::What;
+use tv_check::Port;
+use tv_frame::What;
 use tv_lineage::{Marks, Parts, Records};
 use tv_value::{Name, NoMemory, Place, Sequence};
-use tv_wires::Port;
 
 /// A step, and what its jobs are fed with.
 #[derive(Clone, Copy)]

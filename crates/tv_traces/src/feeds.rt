@@ -9,10 +9,10 @@ ghost use Rattle.tv_traces.specs.Views.{node_view, shapes_view};
 use crate::copies::{element_mark, job_mark, mark_copy, part_copy};
 use crate::node::Node;
 use std::alloc::Global;
+use tv_check::{NumberedFeed, NumberedLink};
 use tv_flow::Flow;
 use tv_lineage::{Mark, Part};
 use tv_value::{Name, NoMemory, Place};
-use tv_wires::{NumberedFeed, NumberedLink};
 
 /// The flow, and the shapes of its steps' iterations, by number.
 #[derive(Clone, Copy)]

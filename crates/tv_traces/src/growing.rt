@@ -3,7 +3,7 @@ ghost use Rattle.std.specs.BTreeMap.{get};
 ghost use Rattle.std.specs.Prelude.{◌≡◌, ◌++◌, ◌∷◌, ℕ, [], IfOk, List, OnOk, map};
 ghost use Rattle.tv_value.specs.Nested.{Place as APlace};
 ghost use Rattle.tv_value.specs.Orders.{place_cmp};
-ghost use Rattle.tv_levels.specs.Views.{level_view};
+ghost use Rattle.tv_frame.specs.Views.{level_view};
 ghost use Rattle.tv_traces.specs.Seen.{Spot};
 ghost use Rattle.tv_traces.specs.Tables.{AreGrown};
 ghost use Rattle.tv_traces.specs.Growing.{AreGrownBy, IsAroundOne, WithAround, WithItem, at_least};
@@ -13,7 +13,7 @@ use crate::settled::SettledJob;
 use crate::table::key_of;
 use std::alloc::Global;
 use std::collections::BTreeMap;
-use tv_levels::Level;
+use tv_frame::Level;
 use tv_value::{NoMemory, Place};
 
 /// What is known of an item of the list at a place tells that the list is longer than the item's index. An index of 2^32 - 1 is of a

@@ -1,7 +1,7 @@
 //! What was made of what: in a run that is done, and of the settled jobs in one that goes on.
 //!
 //! After a run nothing is left of the values that went through it, but of the main instance the lists and passed faults of its
-//! steps' iterations are kept (`tv_levels`): the length of each list, and of each fault the leaf of the strategy that it came
+//! steps' iterations are kept (`tv_frame`): the length of each list, and of each fault the leaf of the strategy that it came
 //! from. With the plan of the flow these tell the shape of every iteration, so which jobs there were and what each of them bound.
 //! From that `Traces` works out the records of all jobs of the main flow, and answers for what stands in the outputs which
 //! marks it used. No value is looked at but those of the outputs, for what stands there.

@@ -6,7 +6,7 @@ ghost use Rattle.tv_traces.specs.Sights.{done_by, job_view};
 use crate::table::key_of;
 use std::alloc::Global;
 use std::collections::BTreeSet;
-use tv_path::Path;
+use tv_cell::Path;
 use tv_value::{NoMemory, Place};
 
 /// A job that is settled.

@@ -3,9 +3,9 @@ ghost use Rattle.std.specs.Prelude.{◌≡◌, ℕ, Bool, true, IfOk, List, map,
 ghost use Rattle.tv_value.specs.Values.{JobName};
 ghost use Rattle.tv_flow.specs.Flows.{Flow};
 ghost use Rattle.tv_strategy.specs.Origins.{Origin};
-ghost use Rattle.tv_instance.specs.Delivered.{StepMeaning};
-ghost use Rattle.tv_levels.specs.Levels.{AreLevels};
-ghost use Rattle.tv_levels.specs.Views.{level_view, what_view};
+ghost use Rattle.tv_model.specs.instance.Delivered.{StepMeaning};
+ghost use Rattle.tv_frame.specs.Levels.{AreLevels};
+ghost use Rattle.tv_frame.specs.Views.{level_view, what_view};
 ghost use Rattle.tv_traces.specs.Seen.{AreKnownBy, AreSeen};
 ghost use Rattle.tv_traces.specs.Sights.{done_in, job_view, what_in};
 
@@ -14,7 +14,7 @@ use crate::settled::{SettledJob, jobs_of};
 use crate::table::{key_of, table_of, told_at};
 use std::alloc::Global;
 use std::collections::{BTreeMap, BTreeSet};
-use tv_levels::{Level, What};
+use tv_frame::{Level, What};
 use tv_value::{NoMemory, Place};
 
 /// Its lists and passed faults by step and place, and its settled jobs.

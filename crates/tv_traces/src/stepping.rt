@@ -6,8 +6,8 @@ ghost use Rattle.tv_flow.specs.Flows.{Step};
 ghost use Rattle.tv_flow.specs.Views.{flow_view};
 ghost use Rattle.tv_strategy.specs.Conditions.{number_of};
 ghost use Rattle.tv_strategy.specs.Measures.{strategy_depth};
-ghost use Rattle.tv_instance.specs.Steps.{strategy_of};
-ghost use Rattle.tv_wires.specs.Ports.{mismatches};
+ghost use Rattle.tv_model.specs.instance.Steps.{strategy_of};
+ghost use Rattle.tv_check.specs.Ports.{mismatches};
 ghost use Rattle.tv_check.specs.declared.plans.StepPlan.{StepPlan};
 ghost use Rattle.tv_traces.specs.OfNodes.{IsBuilt};
 ghost use Rattle.tv_traces.specs.Grouped.{AllAreGrouped};
@@ -22,8 +22,8 @@ use crate::node::Node;
 use crate::sight::Sight;
 use std::alloc::Global;
 use tv_check::FlowPlan;
+use tv_frame::leaf_starts;
 use tv_lineage::Records;
-use tv_starts::leaf_starts;
 use tv_value::{NoMemory, Place, Sequence};
 
 /// So many steps of which nothing is known.

@@ -2,13 +2,13 @@
 ghost use Rattle.std.specs.BTreeMap.{get};
 ghost use Rattle.std.specs.Prelude.{◌≡◌, ◌∷◌, IfOk, map, option_map};
 ghost use Rattle.tv_value.specs.Orders.{place_cmp};
-ghost use Rattle.tv_levels.specs.Views.{level_view, what_view};
+ghost use Rattle.tv_frame.specs.Views.{level_view, what_view};
 ghost use Rattle.tv_traces.specs.Tables.{IsTableOf};
 ghost use Rattle.tv_traces.specs.Tabled.{told_in};
 
 use std::alloc::Global;
 use std::collections::BTreeMap;
-use tv_levels::{Level, What};
+use tv_frame::{Level, What};
 use tv_value::{NoMemory, Place};
 
 /// The levels, by the number of their step and then their place. A look-up for each.

@@ -11,8 +11,8 @@ ghost use Rattle.tv_lineage.specs.Members.{HaveSame};
 ghost use Rattle.tv_lineage.specs.Views.{leaf_view, mark_view};
 ghost use Rattle.tv_model.specs.Meanings.{meaning};
 ghost use Rattle.tv_model.specs.records.Recorded.{leaves, marks_of, output_at};
-ghost use Rattle.tv_levels.specs.MainSteps.{main_steps};
-ghost use Rattle.tv_levels.specs.Views.{level_view};
+ghost use Rattle.tv_frame.specs.MainSteps.{main_steps};
+ghost use Rattle.tv_frame.specs.Views.{level_view};
 ghost use Rattle.tv_traces.specs.Feeds.{feed_marks};
 ghost use Rattle.tv_traces.specs.Seen.{AreSeen};
 ghost use Rattle.tv_traces.specs.Settled.{records_of_settled};
@@ -30,11 +30,10 @@ use crate::stepping::{no_shapes, put, step_at, step_node};
 use crate::used::push_feed_marks;
 use std::alloc::Global;
 use tv_cell::Piece;
-use tv_check::FlowPlan;
-use tv_levels::Level;
+use tv_check::{FlowPlan, NumberedFeed};
+use tv_frame::Level;
 use tv_lineage::{Leaf, Leaves, Marks, Records};
 use tv_value::{Copied, Name, NoMemory, Place, Sequence};
-use tv_wires::NumberedFeed;
 
 /// What was made of what in a run that is done: the records of the main flow's jobs, and the shapes of its steps' iterations.
 #[derive(Drop)]

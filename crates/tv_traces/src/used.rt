@@ -10,9 +10,9 @@ use crate::copies::{element_mark, item_place, job_mark, mark_copy};
 use crate::feeds::{Shown, way_to};
 use crate::node::Node;
 use std::alloc::Global;
+use tv_check::{NumberedFeed, NumberedLink};
 use tv_lineage::Mark;
 use tv_value::{Name, NoMemory, Place};
-use tv_wires::{NumberedFeed, NumberedLink};
 
 /// Pushes the marks that what stands at a node used: a step's, at this place of its iteration. Linear in these.
 #[cycle(used)]

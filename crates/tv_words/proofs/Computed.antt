@@ -1,6 +1,6 @@
 -- The worked examples, computed.
 use Rattle.std.proofs.Common.{refl}
-use Rattle.tv_words.proofs.OnLiterals.{words_on_literals}
+use Rattle.tv_words.proofs.Literals.{words_on_literals}
 use Rattle.tv_words.specs.Worked.{RunsAreGiven, OthersAreGiven, FaultsAreRefused, StrangersAreRefused, NumbersAreRefused}
 
 pub runs-are-given : RunsAreGiven

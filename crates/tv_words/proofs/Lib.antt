@@ -1,6 +1,12 @@
 mod Computed
-pub mod OfBounds
-mod OfCommands
-mod OfNumbers
-mod OfReading
-pub mod OnLiterals
+pub mod Bounds
+mod Commands
+mod Numbers
+mod ReadingLemmas
+pub mod Literals
+pub mod BracketLemmas
+pub mod Cuts
+pub mod Indices
+pub mod Places
+pub mod LawLemmas
+pub mod ElementsComputed

@@ -3,7 +3,7 @@ use Rattle.std.specs.Prelude.{ℕ, List, [], ◌∷◌, codes, Option, Some, Non
 use Rattle.tv_value.specs.Nested.{Place}
 use Rattle.tv_value.specs.Values.{Text, Name}
 use Rattle.tv_value.specs.Orders.{same_name}
-use Rattle.tv_elements.specs.Elements.{element_of}
+use Rattle.tv_words.specs.elements.Elements.{element_of}
 use Rattle.tv_words.specs.Numbers.{count_of, number_of}
 use Rattle.tv_words.specs.Reading.{reading_of}
 

@@ -4,3 +4,4 @@ pub mod Commands
 pub mod CommandViews
 pub mod Stated
 pub mod Worked
+pub mod elements

@@ -9,14 +9,17 @@
 //! - `reading`: what `clap` finds in the words
 //! - `number`: the numbers among the words
 //! - `words`: from what was found to the command
+//! - `elements` (`specs/elements/`): the elements of inputs and outputs as words and lines
 //! - `laws`: what holds of the definitions alone, and the definitions computed on worked words
 #![tactic(auto)]
 
 mod command;
+pub mod elements;
 pub mod laws;
 mod number;
 mod reading;
 mod words;
 
 pub use command::Command;
+pub use elements::{label_lines, read_element};
 pub use words::read_words;

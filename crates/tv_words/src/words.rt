@@ -5,9 +5,9 @@ ghost use Rattle.tv_words.specs.CommandViews.{command_view};
 
 use crate::command::Command;
 use crate::number::{count_of, number_of};
+use crate::read_element;
 use crate::reading::matches_of;
 use std::alloc::Global;
-use tv_elements::read_element;
 use tv_value::{Name, NoMemory, Place};
 
 /// The command that the words after the program's name give, or `None` where they give none. Linear in the words.

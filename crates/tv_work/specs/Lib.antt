@@ -6,3 +6,6 @@ pub mod ByOne
 pub mod Ran
 pub mod Called
 pub mod Stuck
+pub use Rattle.tv_history.specs.Tries
+pub use Rattle.tv_history.specs.Runs
+pub use Rattle.tv_history.specs.Alone

@@ -1,7 +1,7 @@
 //! One worker alone.
 ghost use Rattle.std.specs.Prelude.{◌≡◌, ◌≤◌, IfOk, OnErr, OnOk, true};
-ghost use Rattle.tv_entries.specs.Calls.{out_now};
-ghost use Rattle.tv_entries.specs.Runs.{IsLegalRun};
+ghost use Rattle.tv_history.specs.Calls.{out_now};
+ghost use Rattle.tv_history.specs.Runs.{IsLegalRun};
 ghost use Rattle.tv_work.specs.Asked.{AsksABeginning, AsksAtMostOneMore, AsksEach, AsksInOrder, accepted_tries};
 ghost use Rattle.tv_work.specs.ByOne.{StaysByOne};
 ghost use Rattle.tv_work.specs.InOrder.{AcceptsABeginning, AcceptsInOrder, HasOnlySettled};

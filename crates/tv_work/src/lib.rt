@@ -10,4 +10,5 @@ pub mod laws;
 mod whole_run;
 
 pub use alone::run_alone;
+pub use tv_board::Board;
 pub use whole_run::{run_board, run_whole};

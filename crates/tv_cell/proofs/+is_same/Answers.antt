@@ -1,8 +1,8 @@
 use Rattle.std.proofs.Common.{◌<◌, length, subst, ◌∙◌, arith}
 use Rattle.tv_value.specs.Views.{view}
 use Rattle.tv_cell.proofs.Compared.{lists-same, part-stands}
-use Rattle.tv_cell.proofs.OfPieces.{piece-sound, pieces-sound}
-use Rattle.tv_cell.proofs.OfSizes.{list-smaller, piece-smaller, size, sizes}
+use Rattle.tv_cell.proofs.PieceLemmas.{piece-sound, pieces-sound}
+use Rattle.tv_cell.proofs.Sizes.{list-smaller, piece-smaller, size, sizes}
 use Rattle.tv_cell.proofs.+is_same.Goals as goal
 
 pub piece::Piece::is_same-same_pieces-requires : goal.piece::Piece::is_same-same_pieces-requires

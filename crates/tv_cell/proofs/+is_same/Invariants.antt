@@ -1,7 +1,7 @@
 use Rattle.std.proofs.Common.{◌≡◌, drop}
 use Rattle.tv_cell.specs.PieceValues.{piece_values}
 use Rattle.tv_value.specs.Sameness.{same_values}
-use Rattle.tv_cell.proofs.OfSizes.{size, sizes}
+use Rattle.tv_cell.proofs.Sizes.{size, sizes}
 use Rattle.tv_cell.proofs.+is_same.Given as goal
 
 abbrev pub decreases-piece::Piece::is_same : goal.decreases-piece::Piece::is_same

@@ -1,7 +1,7 @@
 use Rattle.std.proofs.Common.{◌<◌, length, subst, ◌∙◌, arith}
 use Rattle.tv_cell.proofs.Compared.{list-stands}
-use Rattle.tv_cell.proofs.OfPieces.{piece-sound, pieces-sound}
-use Rattle.tv_cell.proofs.OfSizes.{list-smaller, piece-smaller, size, sizes}
+use Rattle.tv_cell.proofs.PieceLemmas.{piece-sound, pieces-sound}
+use Rattle.tv_cell.proofs.Sizes.{list-smaller, piece-smaller, size, sizes}
 use Rattle.tv_cell.proofs.+stands_for.Goals as goal
 
 pub piece::Piece::stands_for-stand_for-requires : goal.piece::Piece::stands_for-stand_for-requires

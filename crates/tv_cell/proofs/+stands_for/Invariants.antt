@@ -2,7 +2,7 @@ use Rattle.std.proofs.Common.{◌≡◌, drop, map}
 use Rattle.tv_value.specs.Views.{view}
 use Rattle.tv_cell.specs.PieceValues.{piece_values}
 use Rattle.tv_value.specs.Sameness.{same_values}
-use Rattle.tv_cell.proofs.OfSizes.{size, sizes}
+use Rattle.tv_cell.proofs.Sizes.{size, sizes}
 use Rattle.tv_cell.proofs.+stands_for.Given as goal
 
 abbrev pub decreases-piece::Piece::stands_for : goal.decreases-piece::Piece::stands_for

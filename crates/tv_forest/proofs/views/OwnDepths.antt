@@ -11,11 +11,11 @@ use Rattle.tv_flow.specs.Flows.{Document, Flow, Step}
 use Rattle.tv_flow.specs.Formed.{is_flow, is_formed}
 use Rattle.tv_flow.specs.Forms.{is_name}
 use Rattle.tv_naming.proofs.FormedParts.{all-pass, document-flows, steps-ascend}
-use Rattle.tv_instance.specs.Delivered.{Delivered}
-use Rattle.tv_instance.specs.Ranks.{ranked}
+use Rattle.tv_model.specs.instance.Delivered.{Delivered}
+use Rattle.tv_model.specs.instance.Ranks.{ranked}
 use Rattle.tv_check.specs.Plans.{IsAccepted}
 use Rattle.tv_check.proofs.Inside.{each-by}
-use Rattle.tv_check.proofs.OfCycles.{IsThere, each-there}
+use Rattle.tv_check.proofs.CycleLemmas.{IsThere, each-there}
 use Rattle.tv_model.specs.Agreeing.{ActivitiesNest, FlowAgrees, InputsHave, NestsWithin, StepAgrees, StepsAgree, StepsNest}
 use Rattle.tv_model.specs.Instances.{given_of, step_made}
 use Rattle.tv_model.specs.Made.{Made, Meaning}
@@ -24,13 +24,13 @@ use Rattle.tv_model.specs.RightDepths.{AreRight}
 use Rattle.tv_model.proofs.Delivers.{depths_of, forget, forget-step, given-depths, given-right}
 use Rattle.tv_model.proofs.Results.{Delivers}
 use Rattle.tv_model.proofs.Whole.{rank-each}
-use Rattle.tv_agreement.proofs.Accepted.{accepted-agrees}
-use Rattle.tv_agreement.proofs.Lists.{named-each}
-use Rattle.tv_strategy.proofs.OfEach.{each-passes as all-each}
-use Rattle.tv_agreement.proofs.OneInstance.{AllSound, flow-delivers, gives-right}
-use Rattle.tv_agreement.proofs.OneStep.{AnyMeaning, made-is, results}
+use Rattle.tv_history.proofs.AcceptedDocuments.{accepted-agrees}
+use Rattle.tv_history.proofs.Lists.{named-each}
+use Rattle.tv_strategy.proofs.Each.{each-passes as all-each}
+use Rattle.tv_history.proofs.OneInstance.{AllSound, flow-delivers, gives-right}
+use Rattle.tv_history.proofs.OneStep.{AnyMeaning, made-is, results}
 use Rattle.tv_framing.specs.instances.OwnResults.{AllMadeGive}
-use Rattle.tv_order.proofs.OfOrder.{nests-each}
+use Rattle.tv_history.proofs.OrderLemmas.{nests-each}
 
 -- ---- the flows of a document
 

@@ -7,9 +7,9 @@ use Rattle.tv_model.specs.Jobs.{Job}
 use Rattle.tv_model.specs.Meanings.{meaning}
 use Rattle.tv_history.specs.Entries.{History}
 use Rattle.tv_history.specs.Histories.{has_open_instance, may_go_on, next_ask}
-use Rattle.tv_order.specs.Chains.{is_inside}
-use Rattle.tv_order.specs.FirstIn.{StandsBefore}
-use Rattle.tv_order.specs.Moments.{IsJob, all_jobs, goes_on, has_offer}
+use Rattle.tv_history.specs.order.Chains.{is_inside}
+use Rattle.tv_history.specs.order.FirstIn.{StandsBefore}
+use Rattle.tv_history.specs.order.Moments.{IsJob, all_jobs, goes_on, has_offer}
 use Rattle.tv_framing.specs.Views.{View}
 use Rattle.tv_seats.specs.Seats.{Seat}
 use Rattle.tv_forest.specs.stands.Offers.{ComesNotBefore}

@@ -5,12 +5,12 @@ use Rattle.tv_value.specs.Nested.{Place}
 use Rattle.tv_value.specs.Values.{JobName, Name}
 use Rattle.tv_gate.specs.Outcomes.{Giving}
 use Rattle.tv_flow.specs.Flows.{Document, Flow}
-use Rattle.tv_instance.specs.ByResults.{InstanceStep}
+use Rattle.tv_model.specs.instance.ByResults.{InstanceStep}
 use Rattle.tv_model.specs.Jobs.{Job}
 use Rattle.tv_model.specs.Meanings.{meaning}
 use Rattle.tv_history.specs.Entries.{Entry, History, bounced, closed, ended, fault_passed, opened}
 use Rattle.tv_history.specs.Histories.{is_legal_after, next_ask}
-use Rattle.tv_order.specs.Moments.{IsLegal, IsQuiet, all_jobs, goes_on}
+use Rattle.tv_history.specs.order.Moments.{IsLegal, IsQuiet, all_jobs, goes_on}
 use Rattle.tv_framing.specs.Answers.{IsReadyJob, NothingSettles, has_ended_now}
 use Rattle.tv_framing.specs.Views.{InAll, View}
 use Rattle.tv_seats.specs.Seats.{Seat}

@@ -9,7 +9,7 @@ use Rattle.tv_model.specs.Meanings.{meaning}
 use Rattle.tv_history.specs.Entries.{History}
 use Rattle.tv_history.specs.Histories as histories
 use Rattle.tv_history.specs.Histories.{is_settled}
-use Rattle.tv_entries.specs.Runs.{flow_of}
+use Rattle.tv_history.specs.Runs.{flow_of}
 use Rattle.tv_seats.specs.Seats.{Seat, seats_out}
 use Rattle.tv_forest.specs.stands.Seats.{is_over, stands_anywhere}
 use Rattle.tv_forest.specs.stands.States.{AreNamesOfJobs, IsJobOfNumber}

@@ -2,7 +2,7 @@
 use Rattle.std.specs.Prelude.{◌≡◌, None, Option, Some, false, ◌∷◌}
 use Rattle.tv_value.specs.Nested.{Place}
 use Rattle.tv_value.specs.Values.{JobName, Name}
-use Rattle.tv_instance.specs.Steps.{spot}
+use Rattle.tv_model.specs.instance.Steps.{spot}
 use Rattle.tv_history.specs.Entries.{Entry, History, accepted, bounced, closed, ended, fault_passed, handed_out, is_ended_entry, is_out, opened, recalled}
 use Rattle.tv_framing.specs.instances.InHistory.{IsOfNoLevel, SettlesNot}
 

@@ -1,6 +1,6 @@
 -- A frame's view, one event later.
 use Rattle.std.specs.Prelude.{◌≡◌, ◌∷◌}
-use Rattle.tv_instance.specs.Events.{Event}
+use Rattle.tv_model.specs.instance.Events.{Event}
 use Rattle.tv_framing.specs.Views.{View}
 
 -- w is v with one more event; which jobs it knows by then isn't said

@@ -7,10 +7,10 @@ use Rattle.tv_value.specs.Values.{ErrorDoc, JobName, Name, Value}
 use Rattle.tv_gate.specs.Outcomes.{Giving}
 use Rattle.tv_flow.specs.Flows.{Document, Flow}
 use Rattle.tv_flow.specs.Formed.{is_formed}
-use Rattle.tv_instance.specs.Steps.{spot}
+use Rattle.tv_model.specs.instance.Steps.{spot}
 use Rattle.tv_check.specs.Plans.{IsAccepted}
-use Rattle.tv_instance.specs.Events as events
-use Rattle.tv_instance.specs.Events.{Event, fault_set, gave, is_taken, took}
+use Rattle.tv_model.specs.instance.Events as events
+use Rattle.tv_model.specs.instance.Events.{Event, fault_set, gave, is_taken, took}
 use Rattle.tv_model.specs.Agreeing.{FlowAgrees}
 use Rattle.tv_model.specs.Jobs.{Job, good_end}
 use Rattle.tv_model.specs.Meanings.{meaning}

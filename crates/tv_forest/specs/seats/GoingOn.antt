@@ -6,7 +6,7 @@ use Rattle.tv_gate.specs.Outcomes.{Giving}
 use Rattle.tv_flow.specs.Flows.{Document, Flow, Step}
 use Rattle.tv_flow.specs.Formed.{is_formed}
 use Rattle.tv_check.specs.Plans.{IsAccepted}
-use Rattle.tv_instance.specs.Events.{Event, gave, took}
+use Rattle.tv_model.specs.instance.Events.{Event, gave, took}
 use Rattle.tv_model.specs.Jobs.{Job}
 use Rattle.tv_model.specs.Meanings.{meaning}
 use Rattle.tv_history.specs.Entries.{Entry, History, accepted, bounced, ended, handed_out, opened, recalled}

@@ -4,13 +4,13 @@ use Rattle.tv_value.specs.Activities.{Activity, service}
 use Rattle.tv_value.specs.Values.{Name}
 use Rattle.tv_gate.specs.Outcomes.{Giving}
 use Rattle.tv_flow.specs.Flows.{Document, Step}
-use Rattle.tv_instance.specs.Ranks.{ranked}
+use Rattle.tv_model.specs.instance.Ranks.{ranked}
 use Rattle.tv_model.specs.Jobs.{Job}
 use Rattle.tv_model.specs.Meanings.{meaning, nesting_limit}
 use Rattle.tv_model.specs.Turns.{is_bounced}
 use Rattle.tv_history.specs.Entries.{History, bounced}
 use Rattle.tv_history.specs.Histories.{can_bounce, is_legal_after, is_ready, may_go_on, next_ask}
-use Rattle.tv_order.specs.FirstIn.{StandsBefore}
+use Rattle.tv_history.specs.order.FirstIn.{StandsBefore}
 use Rattle.tv_model.specs.JobOrder.{place_before, steps_at}
 use Rattle.tv_framing.specs.Views.{View}
 use Rattle.tv_seats.specs.Seats.{Seat, running_count}

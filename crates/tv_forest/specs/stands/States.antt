@@ -6,9 +6,9 @@ use Rattle.tv_value.specs.Values.{JobName, Name}
 use Rattle.tv_gate.specs.Outcomes.{Giving}
 use Rattle.tv_flow.specs.Flows.{Document, Step}
 use Rattle.tv_dispatch.specs.Jobs.{Ask}
-use Rattle.tv_instance.specs.Ranks.{ranked}
-use Rattle.tv_instance.specs.ByResults.{last_first}
-use Rattle.tv_instance.specs.Counting.{have_ended_by}
+use Rattle.tv_model.specs.instance.Ranks.{ranked}
+use Rattle.tv_model.specs.instance.ByResults.{last_first}
+use Rattle.tv_model.specs.instance.Counting.{have_ended_by}
 use Rattle.tv_model.specs.Jobs.{Job}
 use Rattle.tv_model.specs.Meanings.{meaning}
 use Rattle.tv_history.specs.Entries.{History, is_out}

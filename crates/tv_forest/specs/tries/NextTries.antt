@@ -9,7 +9,7 @@ use Rattle.tv_dispatch.specs.Plans.{came_right, first_next, next_after}
 use Rattle.tv_dispatch.specs.declared.plan.Next.{Next}
 use Rattle.tv_dispatch.specs.declared.plan.Next.TheVariants as next
 use Rattle.tv_dispatch.specs.declared.plan.Plan.{Plan}
-use Rattle.tv_instance.specs.Steps.{declared_depths}
+use Rattle.tv_model.specs.instance.Steps.{declared_depths}
 use Rattle.tv_model.specs.Jobs.{Job, failed_end, good_end}
 use Rattle.tv_model.specs.Meanings.{meaning}
 use Rattle.tv_history.specs.Entries.{Entry, History, accepted}

@@ -17,7 +17,7 @@ use Rattle.tv_history.specs.Entries.{Entry, History, is_accepted, is_out}
 use Rattle.tv_history.specs.Histories.{is_legal, is_settled, next_ask}
 use Rattle.tv_history.specs.ReadOff.{has_failed}
 use Rattle.tv_history.specs.activities.Activities.{last_activity}
-use Rattle.tv_order.specs.Parts.{OwnPart}
+use Rattle.tv_history.specs.order.Parts.{OwnPart}
 use Rattle.tv_forest.specs.tries.NextTries.{FlowComesAfterAsks, IsAfter, IsFirst}
 use Rattle.tv_forest.specs.tries.Steps.{IsAskOf, IsBouncedJob, IsOfPlan, IsOwnStep, IsPlanOf}
 

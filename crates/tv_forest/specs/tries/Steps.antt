@@ -11,10 +11,10 @@ use Rattle.tv_dispatch.specs.Jobs.{Ask, error_results, fault_makers}
 use Rattle.tv_dispatch.specs.Plans.{kind_of}
 use Rattle.tv_dispatch.specs.declared.plan.Kind.TheVariants.{Service}
 use Rattle.tv_dispatch.specs.declared.plan.Plan.{Plan}
-use Rattle.tv_instance.specs.Steps.{declared_depths}
+use Rattle.tv_model.specs.instance.Steps.{declared_depths}
 use Rattle.tv_model.specs.Jobs.{Job}
 use Rattle.tv_model.specs.Meanings.{meaning}
-use Rattle.tv_order.specs.Parts.{OwnPart}
+use Rattle.tv_history.specs.order.Parts.{OwnPart}
 
 -- a job of the meaning, with the step that it is of
 pub record IsOwnStep (gives : Giving) (d : Document) (j : Job) (s : Step) : Type 0 where

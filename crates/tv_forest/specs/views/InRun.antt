@@ -8,15 +8,15 @@ use Rattle.tv_gate.specs.Outcomes.{Giving}
 use Rattle.tv_flow.specs.Flows.{Document}
 use Rattle.tv_flow.specs.Formed.{is_formed}
 use Rattle.tv_strategy.specs.Origins.{plain}
-use Rattle.tv_instance.specs.Steps.{spot}
+use Rattle.tv_model.specs.instance.Steps.{spot}
 use Rattle.tv_check.specs.Plans.{IsAccepted}
-use Rattle.tv_instance.specs.Events.{Extends}
+use Rattle.tv_model.specs.instance.Events.{Extends}
 use Rattle.tv_model.specs.Agreeing.{NestsWithin, StepsNest}
 use Rattle.tv_model.specs.Jobs.{Job}
 use Rattle.tv_model.specs.Meanings.{meaning}
 use Rattle.tv_history.specs.Entries.{History}
 use Rattle.tv_history.specs.Histories.{is_legal, is_open}
-use Rattle.tv_order.specs.Parts.{IsInstance, made_of}
+use Rattle.tv_history.specs.order.Parts.{IsInstance, made_of}
 use Rattle.tv_framing.specs.instances.InHistory.{IsPartOf}
 use Rattle.tv_framing.specs.instances.OwnResults.{results_of}
 use Rattle.tv_framing.specs.Frames.{IsFrame}

@@ -8,10 +8,10 @@ use Rattle.tv_value.specs.Values.{JobName, Name, Value, holds_fault}
 use Rattle.tv_gate.specs.Outcomes.{Giving}
 use Rattle.tv_flow.specs.Flows.{Document}
 use Rattle.tv_strategy.specs.Origins.{plain}
-use Rattle.tv_instance.specs.Steps.{spot}
-use Rattle.tv_instance.specs.ByResults.{InstanceStep, PlacedJob, Results}
-use Rattle.tv_instance.specs.Events as events
-use Rattle.tv_instance.specs.Events.{Event, Extends, fault_set, gave, has_result, is_taken, took}
+use Rattle.tv_model.specs.instance.Steps.{spot}
+use Rattle.tv_model.specs.instance.ByResults.{InstanceStep, PlacedJob, Results}
+use Rattle.tv_model.specs.instance.Events as events
+use Rattle.tv_model.specs.instance.Events.{Event, Extends, fault_set, gave, has_result, is_taken, took}
 use Rattle.tv_model.specs.Instances.{given_of}
 use Rattle.tv_model.specs.Jobs.{Job}
 use Rattle.tv_model.specs.Levels.{Level, levels}

@@ -9,20 +9,20 @@ use Rattle.tv_strategy.specs.Iterations.{Iteration, iteration}
 use Rattle.tv_strategy.specs.Levels.{HasLevels}
 use Rattle.tv_strategy.specs.Measures.{DotsAgree, strategy_depth}
 use Rattle.tv_strategy.proofs.AtDepth.{output-depth}
-use Rattle.tv_instance.specs.Delivered.{Delivered, Ported, feed_delivers, at_port}
-use Rattle.tv_instance.specs.Ranks.{ranked}
-use Rattle.tv_instance.specs.Steps.{port_iteration, port_mismatch, spot, strategy_of}
-use Rattle.tv_instance.specs.CheckedDepths.{StepDepths, port_depth, step_depths}
+use Rattle.tv_model.specs.instance.Delivered.{Delivered, Ported, feed_delivers, at_port}
+use Rattle.tv_model.specs.instance.Ranks.{ranked}
+use Rattle.tv_model.specs.instance.Steps.{port_iteration, port_mismatch, spot, strategy_of}
+use Rattle.tv_model.specs.instance.CheckedDepths.{StepDepths, port_depth, step_depths}
 use Rattle.tv_model.specs.Agreeing.{FlowAgrees, InputsAgree, InputsHave, StepAgrees, StepsAgree}
 use Rattle.tv_model.specs.Instances.{given_of}
 use Rattle.tv_model.specs.RightDepths.{AreRight}
 use Rattle.tv_model.specs.Made.{Made, feed_value, step_in}
 use Rattle.tv_model.proofs.Delivers.{depths_of, feed-right, forget, given-depths, given-right, mismatches, ported-depth}
 use Rattle.tv_model.proofs.Fed.{step_iteration, step_ports}
-use Rattle.tv_model.proofs.OfDepths.{Takes, all-levels}
-use Rattle.tv_instance.specs.ByResults.{InstanceStep, Results, outputs_by, ports_on, result_at, step_by, step_of}
-use Rattle.tv_instance.specs.OwnDepths.{AllJobsGive, JobsGive}
-use Rattle.tv_framing.proofs.instances.OfResults.{feed-map, itself}
+use Rattle.tv_model.proofs.Depths.{Takes, all-levels}
+use Rattle.tv_model.specs.instance.ByResults.{InstanceStep, Results, outputs_by, ports_on, result_at, step_by, step_of}
+use Rattle.tv_model.specs.instance.OwnDepths.{AllJobsGive, JobsGive}
+use Rattle.tv_framing.proofs.instances.Results.{feed-map, itself}
 
 -- ---- the laws of depth that are known of steps as a meaning makes them
 

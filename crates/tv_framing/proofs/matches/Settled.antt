@@ -4,9 +4,9 @@ use Rattle.std.proofs.Common.{◌∙◌}
 use Rattle.tv_lemmas.specs.Members.{Each}
 use Rattle.tv_value.specs.Values.{Name}
 use Rattle.tv_flow.specs.Flows.{Step}
-use Rattle.tv_instance.specs.CheckedDepths.{StepDepths, port_depth, step_depths, steps_depths}
-use Rattle.tv_instance.specs.Ranks.{earlier_steps, is_among}
-use Rattle.tv_instance.proofs.OfRanks.{port-stays}
+use Rattle.tv_model.specs.instance.CheckedDepths.{StepDepths, port_depth, step_depths, steps_depths}
+use Rattle.tv_model.specs.instance.Ranks.{earlier_steps, is_among}
+use Rattle.tv_model.proofs.Ranks.{port-stays}
 
 -- none of the steps from s on is among those that come before s
 abbrev pub Feeds : Step → List (Name × Step) → Type 0

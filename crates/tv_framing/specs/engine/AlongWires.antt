@@ -8,21 +8,21 @@ use Rattle.tv_strategy.specs.Measures.{leaf_names}
 use Rattle.tv_strategy.specs.Origins.{Origin, Traced}
 use Rattle.tv_naming.specs.Naming.{has_name}
 use Rattle.tv_naming.specs.Numbers.{position}
-use Rattle.tv_instance.specs.Steps.{strategy_of}
+use Rattle.tv_model.specs.instance.Steps.{strategy_of}
 use Rattle.tv_matching.specs.Told.{Told, item_there, told_leaf, told_to}
 use Rattle.tv_telling.specs.declared.ways.Event as code
 use Rattle.tv_telling.specs.declared.ways.Whole.{Whole}
 use Rattle.tv_telling.specs.Views.{happening, way_tellings, whole_telling}
 use Rattle.tv_telling.specs.Along.{ways_into, wires_from}
-use Rattle.tv_wires.specs.declared.ports.Port.{Port}
-use Rattle.tv_wires.specs.declared.wiring.Wiring.{Wiring}
-use Rattle.tv_wires.specs.Feeds.{feed_numbered, outputs_of}
-use Rattle.tv_wires.specs.Ports.{levels_of, port_among}
-use Rattle.tv_wires.specs.Wirings.{wiring}
-use Rattle.tv_endings.specs.Feeds as feeds
-use Rattle.tv_endings.specs.Feeds.{has_whole_with, leaves_whole_with}
-use Rattle.tv_instance.specs.ByResults.{InstanceStep}
-use Rattle.tv_instance.specs.Events.{Event, event_place, event_step, is_telling}
+use Rattle.tv_check.specs.declared.ports.Port.{Port}
+use Rattle.tv_check.specs.declared.wiring.Wiring.{Wiring}
+use Rattle.tv_check.specs.Feeds.{feed_numbered, outputs_of}
+use Rattle.tv_check.specs.Ports.{levels_of, port_among}
+use Rattle.tv_check.specs.Wirings.{wiring}
+use Rattle.tv_telling.specs.endings.Feeds as feeds
+use Rattle.tv_telling.specs.endings.Feeds.{has_whole_with, leaves_whole_with}
+use Rattle.tv_model.specs.instance.ByResults.{InstanceStep}
+use Rattle.tv_model.specs.instance.Events.{Event, event_place, event_step, is_telling}
 use Rattle.tv_framing.specs.Gaining as framing
 use Rattle.tv_framing.specs.Gaining.{step_whole}
 use Rattle.tv_framing.specs.PortTellings.{port_told, seen_told}
@@ -85,7 +85,7 @@ WiresTellPorts =
 abbrev pub ports_of_step : Wiring → ℕ → List Port
 ports_of_step w n = slice_index_or w.ports n []
 
--- these leaves have their whole values with step t: none, or where it turned whole those that `tv_endings` lists; `whole` says which
+-- these leaves have their whole values with step t: none, or where it turned whole those that `tv_telling` lists; `whole` says which
 -- steps were whole before
 abbrev pub AreWholeWith : Bool → (ℕ → Bool) → ℕ → List Port → List Whole → Type 0
 AreWholeWith turned whole t ports ws =
@@ -126,7 +126,7 @@ pub record IsMarked (f : Flow) (instance : JobName) (known : Origin → Bool) (f
       → has_name step.step.outputs o ≡ true
   pub marked : whole (position t f.steps) ≡ step_whole instance known step
 
--- where each step is marked so, all that feeds a port is known exactly where `tv_endings` says so
+-- where each step is marked so, all that feeds a port is known exactly where `tv_telling` says so
 abbrev pub FeedsAreWholeByNumbers : Type 0
 FeedsAreWholeByNumbers =
     (f : Flow) → IsWired f → (n : ℕ) (s : Name × Step) (i : Name × StepInput) → IsPortOf f n s i

@@ -5,13 +5,13 @@ use Rattle.tv_value.specs.Values.{Name}
 use Rattle.tv_flow.specs.Flows.{Flow, Step}
 use Rattle.tv_naming.specs.Naming.{has_name}
 use Rattle.tv_naming.specs.Numbers.{position}
-use Rattle.tv_instance.specs.Ranks.{ranked}
-use Rattle.tv_wires.specs.Wirings.{all_after}
-use Rattle.tv_endings.specs.declared.endings.Endings.{Endings}
-use Rattle.tv_endings.specs.Ends.{IsSound, have_ended, is_whole}
-use Rattle.tv_instance.specs.ByResults.{last_first}
-use Rattle.tv_instance.specs.Counting.{have_ended_by, whole_by}
-use Rattle.tv_instance.specs.Events.{Events}
+use Rattle.tv_model.specs.instance.Ranks.{ranked}
+use Rattle.tv_check.specs.Wirings.{all_after}
+use Rattle.tv_telling.specs.declared.endings.endings.Endings.{Endings}
+use Rattle.tv_telling.specs.endings.Ends.{IsSound, have_ended, is_whole}
+use Rattle.tv_model.specs.instance.ByResults.{last_first}
+use Rattle.tv_model.specs.instance.Counting.{have_ended_by, whole_by}
+use Rattle.tv_model.specs.instance.Events.{Events}
 use Rattle.tv_framing.specs.engine.WiredFlows.{IsWired}
 
 -- the counters of a flow's steps, of which those are marked whole that are so by counting events

@@ -8,12 +8,12 @@ use Rattle.tv_strategy.specs.Levels.{HasLevels}
 use Rattle.tv_parts.specs.Changes.{CanArrive, CanClose}
 use Rattle.tv_parts.specs.Partials.{Partial, known_at, whole}
 use Rattle.tv_stream.specs.Trees.{least_whole}
-use Rattle.tv_instance.specs.ByResults.{InstanceStep}
-use Rattle.tv_instance.specs.Counting.{whole_by}
-use Rattle.tv_instance.specs.Events as events
-use Rattle.tv_instance.specs.Events.{Event, Events, event_place, event_step, fault_set, gave, is_telling, took}
-use Rattle.tv_instance.specs.Fitting.{FitStep}
-use Rattle.tv_instance.specs.Legality.{IsLegalNext}
+use Rattle.tv_model.specs.instance.ByResults.{InstanceStep}
+use Rattle.tv_model.specs.instance.Counting.{whole_by}
+use Rattle.tv_model.specs.instance.Events as events
+use Rattle.tv_model.specs.instance.Events.{Event, Events, event_place, event_step, fault_set, gave, is_telling, took}
+use Rattle.tv_model.specs.instance.Fitting.{FitStep}
+use Rattle.tv_model.specs.instance.Legality.{IsLegalNext}
 use Rattle.tv_framing.specs.instances.InHistory.{Finds}
 use Rattle.tv_framing.specs.Arriving.{levels_below, part_so_far}
 use Rattle.tv_framing.specs.PortTellings.{newly_by}

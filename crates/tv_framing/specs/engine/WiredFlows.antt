@@ -6,8 +6,8 @@ use Rattle.tv_flow.specs.Flows.{Flow}
 use Rattle.tv_flow.specs.Formed.{is_flow}
 use Rattle.tv_strategy.specs.Measures.{leaf_names}
 use Rattle.tv_naming.specs.Naming.{feed_links, is_there}
-use Rattle.tv_instance.specs.Ranks.{ranked}
-use Rattle.tv_instance.specs.Steps.{strategy_of}
+use Rattle.tv_model.specs.instance.Ranks.{ranked}
+use Rattle.tv_model.specs.instance.Steps.{strategy_of}
 use Rattle.tv_check.specs.PlanViews.{IsOfDocument}
 
 pub record IsWired (f : Flow) : Type 0 where

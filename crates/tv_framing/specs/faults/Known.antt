@@ -8,15 +8,15 @@ use Rattle.tv_flow.specs.Flows.{Feed, Flow, Link, Step, StepInput, constant, inp
 use Rattle.tv_strategy.specs.Measures.{leaf_names}
 use Rattle.tv_naming.specs.Naming.{feed_links, has_name}
 use Rattle.tv_naming.specs.Numbers.{position}
-use Rattle.tv_instance.specs.Steps.{strategy_of}
+use Rattle.tv_model.specs.instance.Steps.{strategy_of}
 use Rattle.tv_parts.specs.Partials.{HoldsFaults, Partial, holds_some}
 use Rattle.tv_telling.specs.declared.ways.Event as code
 use Rattle.tv_telling.specs.declared.ways.Whole.{Whole}
-use Rattle.tv_wires.specs.Feeds.{outputs_of}
-use Rattle.tv_wires.specs.Ports.{leaf_number}
+use Rattle.tv_check.specs.Feeds.{outputs_of}
+use Rattle.tv_check.specs.Ports.{leaf_number}
 use Rattle.tv_model.specs.Instances.{value_given}
-use Rattle.tv_instance.specs.Counting.{whole_by}
-use Rattle.tv_instance.specs.Events.{Event, Events, event_place, event_step}
+use Rattle.tv_model.specs.instance.Counting.{whole_by}
+use Rattle.tv_model.specs.instance.Events.{Event, Events, event_place, event_step}
 use Rattle.tv_framing.specs.Arriving.{part_so_far}
 use Rattle.tv_framing.specs.PortTellings.{newly_by}
 use Rattle.tv_framing.specs.Views.{View}

@@ -7,16 +7,16 @@ use Rattle.tv_naming.specs.Naming.{has_name}
 use Rattle.tv_naming.specs.Numbers.{position}
 use Rattle.tv_parts.specs.Partials.{holds_some}
 use Rattle.tv_telling.specs.declared.ways.Whole.{Whole}
-use Rattle.tv_wires.specs.declared.feeds.NumberedFeed.{NumberedFeed}
-use Rattle.tv_wires.specs.declared.feeds.NumberedFeed.TheVariants.{Constant, Link, Merge}
-use Rattle.tv_wires.specs.declared.feeds.NumberedLink.{NumberedLink}
-use Rattle.tv_wires.specs.declared.feeds.NumberedLink.TheVariants.{Input, Output}
-use Rattle.tv_wires.specs.declared.ports.Port.{Port}
-use Rattle.tv_wires.specs.Feeds.{outputs_of}
-use Rattle.tv_endings.specs.Feeds.{has_whole_with, with_step}
+use Rattle.tv_check.specs.declared.feeds.NumberedFeed.{NumberedFeed}
+use Rattle.tv_check.specs.declared.feeds.NumberedFeed.TheVariants.{Constant, Link, Merge}
+use Rattle.tv_check.specs.declared.feeds.NumberedLink.{NumberedLink}
+use Rattle.tv_check.specs.declared.feeds.NumberedLink.TheVariants.{Input, Output}
+use Rattle.tv_check.specs.declared.ports.Port.{Port}
+use Rattle.tv_check.specs.Feeds.{outputs_of}
+use Rattle.tv_telling.specs.endings.Feeds.{has_whole_with, with_step}
 use Rattle.tv_model.specs.Instances.{value_given}
-use Rattle.tv_instance.specs.Counting.{whole_by}
-use Rattle.tv_instance.specs.Events.{Events}
+use Rattle.tv_model.specs.instance.Counting.{whole_by}
+use Rattle.tv_model.specs.instance.Events.{Events}
 use Rattle.tv_framing.specs.faults.Known.{tree_of}
 
 -- `inputs` tells which inputs hold a fault, and `outputs` which outputs of steps. A feed that brings outputs is no constant

@@ -10,16 +10,16 @@ use Rattle.tv_strategy.specs.Conditions.{EachOnce}
 use Rattle.tv_strategy.specs.Measures.{leaf_names}
 use Rattle.tv_naming.specs.Naming.{has_name}
 use Rattle.tv_naming.specs.Numbers.{position}
-use Rattle.tv_instance.specs.Steps.{strategy_of}
+use Rattle.tv_model.specs.instance.Steps.{strategy_of}
 use Rattle.tv_parts.specs.Partials.{HoldsFaults, holds_some}
 use Rattle.tv_matching.specs.Told.{Told, faulty_at}
 use Rattle.tv_telling.specs.declared.ways.Event as code
 use Rattle.tv_telling.specs.declared.ways.Whole.{Whole}
 use Rattle.tv_telling.specs.Views.{whole_telling}
-use Rattle.tv_wires.specs.Feeds.{outputs_of}
-use Rattle.tv_wires.specs.Wirings.{wiring}
-use Rattle.tv_instance.specs.ByResults.{InstanceStep, PlacedJob}
-use Rattle.tv_instance.specs.Events.{Event, Events, event_step}
+use Rattle.tv_check.specs.Feeds.{outputs_of}
+use Rattle.tv_check.specs.Wirings.{wiring}
+use Rattle.tv_model.specs.instance.ByResults.{InstanceStep, PlacedJob}
+use Rattle.tv_model.specs.instance.Events.{Event, Events, event_step}
 use Rattle.tv_model.specs.Instances.{value_given}
 use Rattle.tv_framing.specs.Arriving.{part_so_far}
 use Rattle.tv_framing.specs.Frames.{IsFrame, with_event}

@@ -4,7 +4,7 @@ use Rattle.tv_lemmas.specs.Members.{Each, In}
 use Rattle.tv_value.specs.Values.{Name}
 use Rattle.tv_strategy.specs.Origins.{Traced}
 use Rattle.tv_matching.specs.Told.{TellsFaults, Told}
-use Rattle.tv_instance.specs.ByResults.{InstanceStep}
+use Rattle.tv_model.specs.instance.ByResults.{InstanceStep}
 use Rattle.tv_framing.specs.Insides.{Delivers}
 use Rattle.tv_framing.specs.Views.{InAll, View}
 

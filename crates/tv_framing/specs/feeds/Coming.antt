@@ -6,8 +6,8 @@ use Rattle.tv_value.specs.Values.{Name, Value, fault_value}
 use Rattle.tv_flow.specs.Flows.{Flow, Step}
 use Rattle.tv_parts.specs.Changes.{arrive, close_at}
 use Rattle.tv_parts.specs.Partials.{Partial, whole}
-use Rattle.tv_instance.specs.Events as events
-use Rattle.tv_instance.specs.Events.{Event, event_place, event_step, fault_set, gave, has_result, is_taken, took}
+use Rattle.tv_model.specs.instance.Events as events
+use Rattle.tv_model.specs.instance.Events.{Event, event_place, event_step, fault_set, gave, has_result, is_taken, took}
 use Rattle.tv_framing.specs.Arriving.{levels_below, part_so_far}
 use Rattle.tv_framing.specs.Frames.{AreNewWith, IsFrame, with_event}
 use Rattle.tv_framing.specs.Stated.{IsOfDepths}

@@ -6,12 +6,12 @@ use Rattle.tv_value.specs.Values.{JobName, Name, Value}
 use Rattle.tv_flow.specs.Flows.{Flow, Step, StepInput}
 use Rattle.tv_strategy.specs.Origins.{Traced}
 use Rattle.tv_naming.specs.Numbers.{position}
-use Rattle.tv_instance.specs.Delivered.{Ported, feed_delivers, at_port}
-use Rattle.tv_wires.specs.Feeds.{outputs_of}
-use Rattle.tv_wires.specs.Ports.{levels_of}
-use Rattle.tv_instance.specs.ByResults.{InstanceStep, Results, step_of}
-use Rattle.tv_instance.specs.Events as events
-use Rattle.tv_instance.specs.Events.{Event, event_step, fault_set, gave, took}
+use Rattle.tv_model.specs.instance.Delivered.{Ported, feed_delivers, at_port}
+use Rattle.tv_check.specs.Feeds.{outputs_of}
+use Rattle.tv_check.specs.Ports.{levels_of}
+use Rattle.tv_model.specs.instance.ByResults.{InstanceStep, Results, step_of}
+use Rattle.tv_model.specs.instance.Events as events
+use Rattle.tv_model.specs.instance.Events.{Event, event_step, fault_set, gave, took}
 use Rattle.tv_model.specs.Instances.{given_of}
 use Rattle.tv_framing.specs.Feeding.{IsPortFed}
 use Rattle.tv_framing.specs.Frames.{with_event}

@@ -6,9 +6,9 @@ use Rattle.tv_cell.specs.PieceValues.{piece_value}
 use Rattle.tv_telling.specs.declared.ways.Event as code
 use Rattle.tv_telling.specs.declared.ways.Happened.{Happened}
 use Rattle.tv_telling.specs.declared.ways.Happened.TheVariants.{Gave, Closed, Passed}
-use Rattle.tv_wires.specs.Feeds.{outputs_of}
-use Rattle.tv_instance.specs.Events as events
-use Rattle.tv_instance.specs.Events.{Event, event_place, event_step, fault_set, gave, took}
+use Rattle.tv_check.specs.Feeds.{outputs_of}
+use Rattle.tv_model.specs.instance.Events as events
+use Rattle.tv_model.specs.instance.Events.{Event, event_place, event_step, fault_set, gave, took}
 use Rattle.tv_framing.specs.engine.AlongWires.{IsSeenAs}
 use Rattle.tv_framing.specs.feeds.Fed.{given_at}
 

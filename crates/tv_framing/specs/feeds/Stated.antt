@@ -4,18 +4,18 @@ use Rattle.std.specs.Prelude.{◌≡◌, ℕ, ◌<◌, ◌==◌, false, true, le
 use Rattle.tv_value.specs.Nested.{Place}
 use Rattle.tv_value.specs.Values.{Name}
 use Rattle.tv_flow.specs.Flows.{Flow, Step}
-use Rattle.tv_instance.specs.Steps.{strategy_of}
+use Rattle.tv_model.specs.instance.Steps.{strategy_of}
 use Rattle.tv_matching.specs.Told.{Told}
 use Rattle.tv_telling.specs.declared.ways.Event as code
 use Rattle.tv_telling.specs.declared.ways.Whole.{Whole}
 use Rattle.tv_telling.specs.Views.{whole_telling}
-use Rattle.tv_wires.specs.declared.wires.Wire.{Wire}
-use Rattle.tv_wires.specs.Wirings.{all_after, wiring}
-use Rattle.tv_endings.specs.declared.endings.Endings.{Endings}
-use Rattle.tv_endings.specs.Ends.{IsSound, is_whole}
-use Rattle.tv_endings.specs.Feeds.{with_step}
-use Rattle.tv_instance.specs.Counting.{whole_by}
-use Rattle.tv_instance.specs.Events.{Event, Events, event_place, event_step, took}
+use Rattle.tv_check.specs.declared.wires.Wire.{Wire}
+use Rattle.tv_check.specs.Wirings.{all_after, wiring}
+use Rattle.tv_telling.specs.declared.endings.endings.Endings.{Endings}
+use Rattle.tv_telling.specs.endings.Ends.{IsSound, is_whole}
+use Rattle.tv_telling.specs.endings.Feeds.{with_step}
+use Rattle.tv_model.specs.instance.Counting.{whole_by}
+use Rattle.tv_model.specs.instance.Events.{Event, Events, event_place, event_step, took}
 use Rattle.tv_framing.specs.Frames.{with_event}
 use Rattle.tv_framing.specs.Views.{View}
 use Rattle.tv_framing.specs.ways.Stated.{IsFrom}

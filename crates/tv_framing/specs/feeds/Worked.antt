@@ -1,10 +1,10 @@
--- Worked examples: of `tv_instance`'s two steps, u makes a list of two texts, and v takes that list whole. They compute.
+-- Worked examples: of `tv_model`'s two steps, u makes a list of two texts, and v takes that list whole. They compute.
 use Rattle.std.specs.Prelude.{◌≡◌, ℕ, true, false, [], ◌∷◌, codes, if◌then◌else◌}
 use Rattle.tv_value.specs.Orders.{same_name}
 use Rattle.tv_value.specs.Values.{Name, text_value}
 use Rattle.tv_flow.specs.Flows.{Flow, StepInput, link, output}
-use Rattle.tv_instance.specs.Events.{Event, gave}
-use Rattle.tv_instance.specs.Worked.{last_one, o, so_far, u, u_step, v_step}
+use Rattle.tv_model.specs.instance.Events.{Event, gave}
+use Rattle.tv_model.specs.instance.Worked.{last_one, o, so_far, u, u_step, v_step}
 use Rattle.tv_framing.specs.Frames.{with_event}
 use Rattle.tv_framing.specs.Views.{View}
 use Rattle.tv_framing.specs.keeping.NextEvents.{is_whole_step}

@@ -7,11 +7,11 @@ use Rattle.tv_value.specs.Orders.{same_job, same_name}
 use Rattle.tv_value.specs.Values.{JobName, Name}
 use Rattle.tv_strategy.specs.Origins.{Origin}
 use Rattle.tv_strategy.specs.Sources.{SourcesHave}
-use Rattle.tv_instance.specs.Delivered.{StepMeaning}
-use Rattle.tv_instance.specs.Steps.{endings_of, spot}
-use Rattle.tv_instance.specs.ByResults.{InstanceStep, step_of}
-use Rattle.tv_instance.specs.Endings.{IsOwn}
-use Rattle.tv_instance.specs.Events.{Events, has_level, has_result, is_spot, is_taken}
+use Rattle.tv_model.specs.instance.Delivered.{StepMeaning}
+use Rattle.tv_model.specs.instance.Steps.{endings_of, spot}
+use Rattle.tv_model.specs.instance.ByResults.{InstanceStep, step_of}
+use Rattle.tv_model.specs.instance.Endings.{IsOwn}
+use Rattle.tv_model.specs.instance.Events.{Events, has_level, has_result, is_spot, is_taken}
 use Rattle.tv_model.specs.Jobs.{Job}
 use Rattle.tv_model.specs.Levels.{Level}
 use Rattle.tv_model.specs.Made.{Meaning}

@@ -2,7 +2,7 @@
 use Rattle.tv_strategy.specs.Origins.{Origin}
 use Rattle.tv_lemmas.specs.Members.{Each}
 use Rattle.tv_strategy.specs.Sources.{AtNodes, SourcesHave}
-use Rattle.tv_instance.specs.ByResults.{InstanceStep}
+use Rattle.tv_model.specs.instance.ByResults.{InstanceStep}
 
 -- P holds of the nodes of its outputs, of the sources of its iteration and of its ending
 pub record NodesHave (P : Origin → Type 0) (f : InstanceStep) : Type 0 where

@@ -7,9 +7,9 @@ use Rattle.tv_value.specs.Values.{JobName, Name, Value}
 use Rattle.tv_gate.specs.Outcomes.{Giving}
 use Rattle.tv_flow.specs.Flows.{Step}
 use Rattle.tv_strategy.specs.Origins.{Origin, Traced}
-use Rattle.tv_instance.specs.Delivered.{Delivered, StepMeaning}
-use Rattle.tv_instance.specs.Steps.{declared_depths, spot}
-use Rattle.tv_instance.specs.ByResults.{InstanceStep, PlacedJob, Results}
+use Rattle.tv_model.specs.instance.Delivered.{Delivered, StepMeaning}
+use Rattle.tv_model.specs.instance.Steps.{declared_depths, spot}
+use Rattle.tv_model.specs.instance.ByResults.{InstanceStep, PlacedJob, Results}
 use Rattle.tv_model.specs.RightDepths.{HaveTheseDepths}
 use Rattle.tv_model.specs.Instances.{step_made}
 use Rattle.tv_model.specs.Made.{Made, Meaning, Opened}

@@ -10,20 +10,20 @@ use Rattle.tv_strategy.specs.Iterations.{Iteration}
 use Rattle.tv_strategy.specs.Levels.{HasLevels}
 use Rattle.tv_strategy.specs.Origins.{Origin}
 use Rattle.tv_strategy.specs.Sources.{AtNodes}
-use Rattle.tv_instance.specs.Delivered.{Delivered}
-use Rattle.tv_instance.specs.Ranks.{ranked}
-use Rattle.tv_instance.specs.Steps.{spot}
-use Rattle.tv_instance.specs.ByResults.{InstanceStep, Results, steps_by, steps_from_last}
-use Rattle.tv_instance.specs.Counting.{have_ended_by, whole_by}
-use Rattle.tv_instance.specs.Endings.{IsOwn, have_ended}
-use Rattle.tv_instance.specs.Events as events
-use Rattle.tv_instance.specs.Events.{Event, Events, event_place, fault_set, gave, has_level, known_by, took}
-use Rattle.tv_instance.specs.Fitting.{FitStep}
-use Rattle.tv_instance.specs.Legality.{AreLegal, IsLegalNext}
-use Rattle.tv_instance.specs.OneEvent.{Rises}
-use Rattle.tv_instance.specs.OwnDepths.{AllJobsGive, AreLevels}
-use Rattle.tv_instance.specs.Readiness.{ends_by, ready_by, settles_by}
-use Rattle.tv_instance.specs.Wholeness.{is_whole}
+use Rattle.tv_model.specs.instance.Delivered.{Delivered}
+use Rattle.tv_model.specs.instance.Ranks.{ranked}
+use Rattle.tv_model.specs.instance.Steps.{spot}
+use Rattle.tv_model.specs.instance.ByResults.{InstanceStep, Results, steps_by, steps_from_last}
+use Rattle.tv_model.specs.instance.Counting.{have_ended_by, whole_by}
+use Rattle.tv_model.specs.instance.Endings.{IsOwn, have_ended}
+use Rattle.tv_model.specs.instance.Events as events
+use Rattle.tv_model.specs.instance.Events.{Event, Events, event_place, fault_set, gave, has_level, known_by, took}
+use Rattle.tv_model.specs.instance.Fitting.{FitStep}
+use Rattle.tv_model.specs.instance.Legality.{AreLegal, IsLegalNext}
+use Rattle.tv_model.specs.instance.OneEvent.{Rises}
+use Rattle.tv_model.specs.instance.OwnDepths.{AllJobsGive, AreLevels}
+use Rattle.tv_model.specs.instance.Readiness.{ends_by, ready_by, settles_by}
+use Rattle.tv_model.specs.instance.Wholeness.{is_whole}
 use Rattle.tv_model.specs.Agreeing.{FlowAgrees, InputsHave}
 use Rattle.tv_model.specs.Instances.{given_of}
 use Rattle.tv_model.specs.RightDepths.{AreRight}

@@ -3,10 +3,10 @@ use Rattle.std.specs.Prelude.{◌≡◌, ℕ, Bool, false, true, List, ◌∷◌
 use Rattle.std.specs.Option.{option_map_or}
 use Rattle.tv_value.specs.Values.{Name}
 use Rattle.tv_flow.specs.Flows.{Flow}
-use Rattle.tv_instance.specs.Ranks.{ranked}
-use Rattle.tv_instance.specs.Counting.{whole_by}
-use Rattle.tv_instance.specs.Events.{Event, is_telling}
-use Rattle.tv_instance.specs.Legality.{IsLegalNext}
+use Rattle.tv_model.specs.instance.Ranks.{ranked}
+use Rattle.tv_model.specs.instance.Counting.{whole_by}
+use Rattle.tv_model.specs.instance.Events.{Event, is_telling}
+use Rattle.tv_model.specs.instance.Legality.{IsLegalNext}
 use Rattle.tv_framing.specs.Frames.{IsFrame, with_event}
 use Rattle.tv_framing.specs.Stated.{IsOfDepths}
 use Rattle.tv_framing.specs.Views.{AreGiven, InAll, View}

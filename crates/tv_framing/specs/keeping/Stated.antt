@@ -4,9 +4,9 @@ use Rattle.tv_lemmas.specs.Members.{In}
 use Rattle.tv_value.specs.Nested.{Place}
 use Rattle.tv_value.specs.Values.{Name, Value}
 use Rattle.tv_flow.specs.Flows.{Flow}
-use Rattle.tv_instance.specs.Ranks.{ranked}
+use Rattle.tv_model.specs.instance.Ranks.{ranked}
 use Rattle.tv_matching.specs.Told.{Told}
-use Rattle.tv_instance.specs.Events.{Event, gave, has_result, took}
+use Rattle.tv_model.specs.instance.Events.{Event, gave, has_result, took}
 use Rattle.tv_framing.specs.Answers.{CanSettle}
 use Rattle.tv_framing.specs.Frames.{IsFrame, with_event}
 use Rattle.tv_framing.specs.Stated.{IsOfDepths}

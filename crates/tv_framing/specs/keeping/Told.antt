@@ -4,11 +4,11 @@ use Rattle.tv_lemmas.specs.Members.{Each, In}
 use Rattle.tv_value.specs.Values.{JobName, Name}
 use Rattle.tv_strategy.specs.Iterations.{walk}
 use Rattle.tv_strategy.specs.Origins.{Traced}
-use Rattle.tv_instance.specs.Delivered.{Ported}
+use Rattle.tv_model.specs.instance.Delivered.{Ported}
 use Rattle.tv_matching.specs.Items.{known_items}
 use Rattle.tv_matching.specs.Told.{Told, item_there, told_to}
-use Rattle.tv_instance.specs.ByResults.{InstanceStep}
-use Rattle.tv_instance.specs.Events.{Events, known_by}
+use Rattle.tv_model.specs.instance.ByResults.{InstanceStep}
+use Rattle.tv_model.specs.instance.Events.{Events, known_by}
 use Rattle.tv_framing.specs.Views.{InAll, View}
 
 -- what a port was told by these tellings are the items of its walk that are known, seen with the port's value

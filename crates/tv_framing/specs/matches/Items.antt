@@ -9,12 +9,12 @@ use Rattle.tv_flow.specs.Flows.{Flow, Step}
 use Rattle.tv_strategy.specs.Conditions.{number_of, place_of}
 use Rattle.tv_strategy.specs.Origins.{Mark, Origin, plain}
 use Rattle.tv_strategy.specs.Splits.{split}
-use Rattle.tv_instance.specs.Delivered.{Ported}
-use Rattle.tv_instance.specs.Steps.{strategy_of}
-use Rattle.tv_wires.specs.Ports.{mismatches}
+use Rattle.tv_model.specs.instance.Delivered.{Ported}
+use Rattle.tv_model.specs.instance.Steps.{strategy_of}
+use Rattle.tv_check.specs.Ports.{mismatches}
 use Rattle.tv_matching.specs.Items.{Item, Kind, closes, ends, item, known_items, passes}
 use Rattle.tv_matching.specs.Matchers.{Outcome, fault_at, job_at, leaf_name, list_at}
-use Rattle.tv_instance.specs.ByResults.{InstanceStep}
+use Rattle.tv_model.specs.instance.ByResults.{InstanceStep}
 
 -- ---- items and outcomes
 

@@ -7,16 +7,16 @@ use Rattle.tv_value.specs.Values.{ErrorDoc, Name, Value}
 use Rattle.tv_flow.specs.Flows.{Flow, Step}
 use Rattle.tv_strategy.specs.Measures.{leaf_names}
 use Rattle.tv_strategy.specs.Origins.{plain}
-use Rattle.tv_instance.specs.Ranks.{ranked}
-use Rattle.tv_instance.specs.Steps.{declared_depths, strategy_of}
-use Rattle.tv_wires.specs.Ports.{mismatches}
+use Rattle.tv_model.specs.instance.Ranks.{ranked}
+use Rattle.tv_model.specs.instance.Steps.{declared_depths, strategy_of}
+use Rattle.tv_check.specs.Ports.{mismatches}
 use Rattle.tv_matching.specs.Items.{known_items}
 use Rattle.tv_matching.specs.Matchers.{CanTellAll, Matching, Outcome, fault_at, list_at}
 use Rattle.tv_matching.specs.Told.{Told, told_leaf}
 use Rattle.tv_intake.specs.Sorting.{others_among}
-use Rattle.tv_instance.specs.ByResults.{InstanceStep, PlacedJob}
-use Rattle.tv_instance.specs.Events as events
-use Rattle.tv_instance.specs.Events.{Event, Events, fault_set, gave, has_level, has_result, known_by, took}
+use Rattle.tv_model.specs.instance.ByResults.{InstanceStep, PlacedJob}
+use Rattle.tv_model.specs.instance.Events as events
+use Rattle.tv_model.specs.instance.Events.{Event, Events, fault_set, gave, has_level, has_result, known_by, took}
 use Rattle.tv_model.specs.RightDepths.{HaveTheseDepths}
 use Rattle.tv_framing.specs.Answers.{AreInputs, CanSettle, NothingSettles}
 use Rattle.tv_framing.specs.Frames.{AreNewWith, IsFrame, known_jobs, with_event}

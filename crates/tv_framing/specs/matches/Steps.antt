@@ -5,8 +5,8 @@ use Rattle.tv_flow.specs.Flows.{Flow, Step}
 use Rattle.tv_flow.specs.Formed.{is_flow}
 use Rattle.tv_strategy.specs.Conditions.{EachOnce}
 use Rattle.tv_strategy.specs.Measures.{leaf_names}
-use Rattle.tv_instance.specs.Ranks.{ranked}
-use Rattle.tv_instance.specs.Steps.{strategy_of}
+use Rattle.tv_model.specs.instance.Ranks.{ranked}
+use Rattle.tv_model.specs.instance.Steps.{strategy_of}
 use Rattle.tv_matching.specs.Matchers.{Outcome, out}
 use Rattle.tv_matching.specs.Told.{Told, matched_after}
 use Rattle.tv_framing.specs.Stated.{IsOfDepths}

@@ -6,8 +6,8 @@ use Rattle.tv_value.specs.Orders.{same_name}
 use Rattle.tv_value.specs.Values.{Name}
 use Rattle.tv_matching.specs.Matchers.{Outcome, fault_at, job_at, list_at}
 use Rattle.tv_match.specs.Stated.{outcome_place}
-use Rattle.tv_instance.specs.Events as events
-use Rattle.tv_instance.specs.Events.{Event, Events, fault_set, gave, has_level, took}
+use Rattle.tv_model.specs.instance.Events as events
+use Rattle.tv_model.specs.instance.Events.{Event, Events, fault_set, gave, has_level, took}
 
 -- nothing was told of this list or passed fault
 abbrev pub is_waiting : Events → Name → Outcome → Bool

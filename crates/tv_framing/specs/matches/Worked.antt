@@ -6,7 +6,7 @@ use Rattle.tv_value.specs.Strategies.{Strategy, dot, no_strategies, port, strate
 use Rattle.tv_value.specs.Values.{Name}
 use Rattle.tv_flow.specs.Flows.{Flow, Step, StepInput, input, link}
 use Rattle.tv_matching.specs.Matchers.{Outcome, fault_at, job_at, list_at}
-use Rattle.tv_instance.specs.Events.{Event, Events, closed, fault_set, gave, took}
+use Rattle.tv_model.specs.instance.Events.{Event, Events, closed, fault_set, gave, took}
 use Rattle.tv_framing.specs.matches.Items.{part_at, unnamed}
 use Rattle.tv_framing.specs.matches.Jobs.{all_jobs}
 use Rattle.tv_framing.specs.matches.Waiting.{waiting_of}

@@ -9,7 +9,7 @@ use Rattle.tv_model.specs.Instances.{value_given}
 use Rattle.tv_matching.specs.Items.{if_so}
 use Rattle.tv_matching.specs.Told.{Told, close}
 use Rattle.tv_telling.specs.ValueTellings.{bound_told, value_told}
-use Rattle.tv_wires.specs.Ports.{levels_of}
+use Rattle.tv_check.specs.Ports.{levels_of}
 
 -- the link comes from an input of the flow
 abbrev pub is_input : Link → Bool

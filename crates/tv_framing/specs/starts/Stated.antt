@@ -3,11 +3,11 @@ use Rattle.std.specs.Prelude.{◌≡◌, ℕ, List, [], ◌++◌, map, IsPermuta
 use Rattle.tv_value.specs.Values.{Name, Value}
 use Rattle.tv_flow.specs.Flows.{Flow, Step, StepInput}
 use Rattle.tv_strategy.specs.Measures.{leaf_names}
-use Rattle.tv_instance.specs.Steps.{strategy_of}
+use Rattle.tv_model.specs.instance.Steps.{strategy_of}
 use Rattle.tv_matching.specs.Matchers.{CanTellAll, Matching}
 use Rattle.tv_matching.specs.Told.{Told, tellings}
-use Rattle.tv_wires.specs.Ports.{mismatches, port_among}
-use Rattle.tv_instance.specs.Events.{known_by}
+use Rattle.tv_check.specs.Ports.{mismatches, port_among}
+use Rattle.tv_model.specs.instance.Events.{known_by}
 use Rattle.tv_framing.specs.Frames.{IsFrame, known_jobs}
 use Rattle.tv_framing.specs.Stated.{IsOfDepths}
 use Rattle.tv_framing.specs.Views.{InAll, View}

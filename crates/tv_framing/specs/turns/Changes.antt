@@ -4,8 +4,8 @@ use Rattle.tv_value.specs.Nested.{Place}
 use Rattle.tv_value.specs.Values.{Name}
 use Rattle.tv_flow.specs.Flows.{Step}
 use Rattle.tv_idle.specs.Idles.{StepIdle, of_step, with_idle, without}
-use Rattle.tv_instance.specs.Events as events
-use Rattle.tv_instance.specs.Events.{Event, fault_set, gave, gives_at, has_result, is_taken, takes_at, took}
+use Rattle.tv_model.specs.instance.Events as events
+use Rattle.tv_model.specs.instance.Events.{Event, fault_set, gave, gives_at, has_result, is_taken, takes_at, took}
 use Rattle.tv_framing.specs.Answers.{numbered}
 use Rattle.tv_framing.specs.Views.{View}
 use Rattle.tv_framing.specs.engine.WiredFlows.{IsWired}

@@ -4,8 +4,8 @@ use Rattle.tv_value.specs.Nested.{Place}
 use Rattle.tv_value.specs.Values.{Name}
 use Rattle.tv_flow.specs.Flows.{Flow}
 use Rattle.tv_naming.specs.Numbers.{position}
-use Rattle.tv_instance.specs.Ranks.{ranked}
-use Rattle.tv_instance.specs.ByResults.{last_first}
+use Rattle.tv_model.specs.instance.Ranks.{ranked}
+use Rattle.tv_model.specs.instance.ByResults.{last_first}
 use Rattle.tv_framing.specs.Answers.{IsReadyJob, numbered}
 use Rattle.tv_framing.specs.Views.{View}
 use Rattle.tv_model.specs.JobOrder.{spot_before}

@@ -8,7 +8,7 @@ use Rattle.tv_naming.specs.Naming.{has_name}
 use Rattle.tv_naming.specs.Numbers.{position}
 use Rattle.tv_idle.specs.Idles.{StepIdle, of_step}
 use Rattle.tv_idle.specs.Kept.{are_in_order}
-use Rattle.tv_instance.specs.Events.{has_result, is_taken}
+use Rattle.tv_model.specs.instance.Events.{has_result, is_taken}
 use Rattle.tv_framing.specs.Answers.{numbered}
 use Rattle.tv_framing.specs.Views.{View}
 

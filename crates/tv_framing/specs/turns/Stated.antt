@@ -3,15 +3,15 @@ use Rattle.std.specs.List.{list_all}
 use Rattle.std.specs.Prelude.{◌≡◌, ◌<◌, ℕ, List, length, nat_lt, true, Option, Some}
 use Rattle.tv_value.specs.Values.{Name}
 use Rattle.tv_flow.specs.Flows.{Flow}
-use Rattle.tv_wires.specs.Wirings.{wiring}
-use Rattle.tv_endings.specs.declared.endings.Endings.{Endings}
+use Rattle.tv_check.specs.Wirings.{wiring}
+use Rattle.tv_telling.specs.declared.endings.endings.Endings.{Endings}
 use Rattle.tv_idle.specs.Idles.{StepIdle}
 use Rattle.tv_framing.specs.Views.{View}
 use Rattle.tv_framing.specs.engine.EndedSteps.{AreEndingsOf}
 use Rattle.tv_framing.specs.engine.WiredFlows.{IsWired}
 use Rattle.tv_framing.specs.turns.FirstReady.{IsFirstReady, by_falling_rank, spot_given}
 use Rattle.tv_framing.specs.turns.IdleJobs.{AreIdleOf}
-use Rattle.tv_endings.specs.Turns.{first_in_turn, may_settle}
+use Rattle.tv_telling.specs.endings.Turns.{first_in_turn, may_settle}
 
 abbrev pub FirstInTurnIsFirstReady : Type 0
 FirstInTurnIsFirstReady =

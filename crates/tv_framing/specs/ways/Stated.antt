@@ -7,11 +7,11 @@ use Rattle.tv_flow.specs.Flows.{Feed, Link, constant, input, link, merge, output
 use Rattle.tv_strategy.specs.Levels.{HasLevels}
 use Rattle.tv_matching.specs.Items.{if_so}
 use Rattle.tv_matching.specs.Told.{Told, tellings}
-use Rattle.tv_instance.specs.ByResults.{InstanceStep}
-use Rattle.tv_instance.specs.Events as events
-use Rattle.tv_instance.specs.Events.{Event, Events, event_place, event_step, fault_set, is_telling, took}
-use Rattle.tv_instance.specs.Fitting.{FitStep}
-use Rattle.tv_instance.specs.Legality.{IsLegalNext}
+use Rattle.tv_model.specs.instance.ByResults.{InstanceStep}
+use Rattle.tv_model.specs.instance.Events as events
+use Rattle.tv_model.specs.instance.Events.{Event, Events, event_place, event_step, fault_set, is_telling, took}
+use Rattle.tv_model.specs.instance.Fitting.{FitStep}
+use Rattle.tv_model.specs.instance.Legality.{IsLegalNext}
 use Rattle.tv_framing.specs.instances.InHistory.{Finds}
 use Rattle.tv_framing.specs.PortTellings as framing
 use Rattle.tv_framing.specs.PortTellings.{newly_by, port_told, way_told}

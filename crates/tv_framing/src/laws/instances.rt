@@ -1,7 +1,7 @@
 //! The instances of a meaning, and of a history, are instances by the results of their jobs: laws, of which the program
 //! runs nothing.
 //!
-//! `tv_instance` defines an instance of a flow by what its jobs give and by the events that it was told. Here stands what
+//! `tv_model` defines an instance of a flow by what its jobs give and by the events that it was told. Here stands what
 //! ties that to the meaning of a document and to its histories:
 //! - the steps and jobs of every instance of a meaning are those that the results of its own jobs give
 //!   (`specs/instances/OwnResults.antt`), whatever the services are;

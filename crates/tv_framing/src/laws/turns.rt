@@ -2,7 +2,7 @@
 //!
 //! A job is ready where it is known, neither runs nor has a result, and the steps that its step runs after have ended. In job
 //! order the jobs of the step of greater rank come first, and within a step the lesser place. So the steps are taken by falling
-//! rank, and the first idle job of the first of them that may settle and has one is the answer (`tv_endings`, `specs/Turns.antt`):
+//! rank, and the first idle job of the first of them that may settle and has one is the answer (`tv_telling`, `specs/Turns.antt`):
 //! each step is looked at once, and no job that has gone but those that `tv_idle` still keeps.
 ghost use Rattle.tv_framing.specs.turns.Changes.{AreIdleStill, AreIdleWithOneMore, AreIdleWithoutOne, NoneAreIdleAtFirst};
 ghost use Rattle.tv_framing.specs.turns.Stated.{FirstInTurnIsFirstReady, OrderIsOfSteps};

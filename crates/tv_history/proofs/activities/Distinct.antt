@@ -3,18 +3,18 @@ use Rattle.std.specs.Prelude.{◌≡◌, ℕ, suc, ◌⊎◌, ◌≤◌, List, [
 use Rattle.std.specs.List.{range_with_len}
 use Rattle.std.proofs.Common.{arith, sym, ap, subst, ◌∙◌, inl, inr}
 use Rattle.tv_lemmas.specs.Members.{In}
-use Rattle.tv_lemmas.proofs.OfMembers.{in-append, of-map}
+use Rattle.tv_lemmas.proofs.Members.{in-append, of-map}
 use Rattle.tv_lemmas.proofs.Cases.{on_either}
 use Rattle.tv_value.specs.Activities.{Activity, service, nested}
 use Rattle.tv_value.specs.Values.{Name, Text, Value}
 use Rattle.tv_flow.specs.Flows.{Document}
 use Rattle.tv_gate.specs.Outcomes.{Giving}
 use Rattle.tv_dispatch.specs.Jobs.{Ask, outcome_of, Try, ask, open_flow, tries, right, Taken, take_tries, match_result}
-use Rattle.tv_instance.specs.Steps.{declared_depths}
+use Rattle.tv_model.specs.instance.Steps.{declared_depths}
 use Rattle.tv_model.specs.Jobs.{Job}
 use Rattle.tv_model.specs.Meanings.{meaning}
 use Rattle.tv_history.proofs.activities.Everywhere.{document-asks}
-use Rattle.tv_strategy.proofs.OfEach.{each-all}
+use Rattle.tv_strategy.proofs.Each.{each-all}
 
 abbrev pub AreDistinct : List Ask → Type 0
 AreDistinct as' = (a b : Ask) → In a as' → In b as' → a.activity ≡ b.activity → a.attempt ≡ b.attempt → a ≡ b

@@ -4,7 +4,7 @@ use Rattle.std.specs.Prelude.{ℕ, zero, suc, List, [], ◌∷◌, ◌++◌, len
 use Rattle.std.specs.Option.{option_map_or}
 use Rattle.std.proofs.Common.{sym, subst, inl, inr}
 use Rattle.tv_lemmas.specs.Members.{Each, In}
-use Rattle.tv_lemmas.proofs.OfMembers.{of-flat}
+use Rattle.tv_lemmas.proofs.Members.{of-flat}
 use Rattle.tv_value.specs.Nested.{Place, leaf, list, nodes}
 use Rattle.tv_value.specs.Values.{Name, JobName, Value, holds_fault}
 use Rattle.tv_flow.specs.Flows.{Document, Flow, Step}
@@ -12,9 +12,9 @@ use Rattle.tv_strategy.specs.Iterations.{Iteration, job, passed}
 use Rattle.tv_strategy.specs.Origins.{Origin, Traced, plain}
 use Rattle.tv_gate.specs.Outcomes.{Giving}
 use Rattle.tv_dispatch.specs.Jobs.{Ask, tries, Fate, right, opens, wrong, Taken, take_tries}
-use Rattle.tv_instance.specs.Delivered.{Delivered}
-use Rattle.tv_instance.specs.Ranks.{ranked}
-use Rattle.tv_instance.specs.Steps.{bound_values, declared_depths}
+use Rattle.tv_model.specs.instance.Delivered.{Delivered}
+use Rattle.tv_model.specs.instance.Ranks.{ranked}
+use Rattle.tv_model.specs.instance.Steps.{bound_values, declared_depths}
 use Rattle.tv_model.specs.Instances.{given_of, with_fate, bounced_job, tried_job, job_on, node_jobs, step_made, steps_made}
 use Rattle.tv_model.specs.Jobs.{Job}
 use Rattle.tv_model.specs.Made.{Meaning, Opened, Made, endings}

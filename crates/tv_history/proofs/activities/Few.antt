@@ -2,7 +2,7 @@
 use Rattle.std.specs.Prelude.{◌≡◌, ℕ, suc, ◌+◌, ◌<◌, ◌≤◌, List, [], ◌∷◌, length, true}
 use Rattle.std.proofs.Common.{arith, ap, inl, inr}
 use Rattle.tv_lemmas.specs.Members.{In}
-use Rattle.tv_lemmas.proofs.OfMembers.{in-append}
+use Rattle.tv_lemmas.proofs.Members.{in-append}
 use Rattle.tv_lemmas.proofs.Cases.{on_either}
 use Rattle.tv_value.specs.Activities.{Activity, service, nested}
 use Rattle.tv_value.specs.Values.{Value}
@@ -10,7 +10,7 @@ use Rattle.tv_flow.specs.Flows.{Document}
 use Rattle.tv_flow.specs.Formed.{is_formed}
 use Rattle.tv_gate.specs.Outcomes.{Giving}
 use Rattle.tv_dispatch.specs.Jobs.{Ask, ask, tries}
-use Rattle.tv_instance.specs.Steps.{declared_depths}
+use Rattle.tv_model.specs.instance.Steps.{declared_depths}
 use Rattle.tv_model.specs.Jobs.{Job}
 use Rattle.tv_model.specs.Meanings.{meaning}
 use Rattle.tv_history.proofs.activities.Distinct.{attempts, no-flow, of-attempts, taken-in}

@@ -11,7 +11,7 @@ use Rattle.tv_flow.specs.Formed.{is_between, is_activity, is_feed, is_value, is_
 use Rattle.tv_flow.specs.Forms.{is_name}
 use Rattle.tv_model.proofs.Tests.{true≠false}
 use Rattle.tv_history.specs.activities.Agreed.{HasActivities}
-use Rattle.tv_strategy.proofs.OfEach.{each-passes, each-weaken}
+use Rattle.tv_strategy.proofs.Each.{each-passes, each-weaken}
 
 one-at_least : (n : ℕ) → nat_le 1 n ≡ true → 1 ≤ n
 one-at_least zero h = absurd (true≠false (sym h))

@@ -9,7 +9,7 @@ use Rattle.tv_flow.specs.Flows.{Document, Step}
 use Rattle.tv_strategy.specs.Origins.{Origin, Traced, plain}
 use Rattle.tv_gate.specs.Outcomes.{Giving}
 use Rattle.tv_dispatch.specs.Jobs.{Ask, outcome_of, Try, ask, tries, Fate, right, opens, wrong, Taken, take_tries, match_result}
-use Rattle.tv_instance.specs.Steps.{declared_depths}
+use Rattle.tv_model.specs.instance.Steps.{declared_depths}
 use Rattle.tv_model.specs.Instances.{with_fate, bounced_job, tried_job, job_on}
 use Rattle.tv_model.specs.Jobs.{Job}
 use Rattle.tv_model.specs.Made.{Meaning}

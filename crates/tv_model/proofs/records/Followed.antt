@@ -3,9 +3,9 @@ use Rattle.std.specs.Prelude.{◌≡◌, refl, ℕ, zero, suc, ◌≤◌, List, 
 use Rattle.std.proofs.Common.{arith, sym, ap, subst, ◌∙◌, inl, inr}
 use Rattle.std.proofs.lemmas.Bool.{true≢false}
 use Rattle.tv_lemmas.specs.Members.{In}
-use Rattle.tv_lemmas.proofs.OfMembers.{in-flat, in-map, of-flat, of-map}
+use Rattle.tv_lemmas.proofs.Members.{in-flat, in-map, of-flat, of-map}
 use Rattle.tv_value.specs.Orders.{same_job, in_order}
-use Rattle.tv_value.proofs.OfJobNames.{same_job_decides}
+use Rattle.tv_value.proofs.JobNameLemmas.{same_job_decides}
 use Rattle.tv_lineage.specs.Touching as marks
 use Rattle.tv_lineage.specs.Touching.{Label, label_cmp}
 use Rattle.tv_lineage.specs.Lineages.{Record, LeadsIn, Leads, IsReached, backward}

@@ -3,7 +3,7 @@ use Rattle.std.specs.Prelude.{◌≡◌, refl, ℕ, zero, suc, List, [], ◌∷�
 use Rattle.std.specs.List.{list_any, cons_option}
 use Rattle.std.proofs.Common.{sym, subst, inl, inr}
 use Rattle.tv_lemmas.specs.Members.{Each, In}
-use Rattle.tv_lemmas.proofs.OfMembers.{each_in, in-flat, in-left, in-right, in_each, of-flat}
+use Rattle.tv_lemmas.proofs.Members.{each_in, in-flat, in-left, in-right, in_each, of-flat}
 use Rattle.tv_value.specs.Nested.{leaf, list, Trees, no_trees, tree, Place, map_trees, nodes, nodes_below, nodes_from}
 use Rattle.tv_value.specs.Values.{Name, JobName, Scalar, text, fault, Value, holds_fault}
 use Rattle.tv_value.specs.Strategies.{Strategy, port, cross, dot, Strategies, no_strategies, strategy}
@@ -14,11 +14,11 @@ use Rattle.tv_strategy.specs.Origins.{Mark, given, made, Origin, Traced, plain, 
 use Rattle.tv_strategy.specs.Iterations.{Binding, End, job, passed, Iteration, Iterations, stopped, walk, walk_each, end_with, added, crossed, each_crossed, crossed_end, paired, each_paired, paired_end, iteration, cross_of, dot_of}
 use Rattle.tv_strategy.specs.Measures.{strategy_depth}
 use Rattle.tv_strategy.specs.Sources.{AtNodes, AtAllNodes, SourcesHave, AllSourcesHave}
-use Rattle.tv_strategy.proofs.OfSources.{each-append}
-use Rattle.tv_strategy.proofs.OfEach.{each-all, each-weaken}
+use Rattle.tv_strategy.proofs.Sources.{each-append}
+use Rattle.tv_strategy.proofs.Each.{each-all, each-weaken}
 use Rattle.tv_dispatch.specs.Jobs.{Fate, right, opens, wrong, tries, take_tries}
-use Rattle.tv_instance.specs.Delivered.{Delivered, wrapped}
-use Rattle.tv_instance.specs.Steps.{strategy_of, port_iteration, port_mismatch, bound_values, declared_depths, spot, node_origin}
+use Rattle.tv_model.specs.instance.Delivered.{Delivered, wrapped}
+use Rattle.tv_model.specs.instance.Steps.{strategy_of, port_iteration, port_mismatch, bound_values, declared_depths, spot, node_origin}
 use Rattle.tv_model.specs.Jobs.{Job}
 use Rattle.tv_model.specs.Made.{Meaning, Opened, Made, endings, result_of, delivered_outputs}
 use Rattle.tv_model.specs.Instances.{with_fate, bounced_job, tried_job, job_on, node_jobs, step_made, steps_made}

@@ -5,7 +5,7 @@ use Rattle.std.specs.Option.{option_map_or}
 use Rattle.std.proofs.Common.{sym, ap, subst, ◌∙◌, inl, inr}
 use Rattle.std.proofs.lemmas.List.Elements.{filter-append}
 use Rattle.tv_lemmas.specs.Members.{Each, In}
-use Rattle.tv_lemmas.proofs.OfMembers.{each_in, in-flat, in-map, in-right, of-map}
+use Rattle.tv_lemmas.proofs.Members.{each_in, in-flat, in-map, in-right, of-map}
 use Rattle.tv_value.specs.Nested.{leaf, list, Trees, no_trees, tree, Place, at, children, item_at, nodes, nodes_below, nodes_from}
 use Rattle.tv_value.specs.Values.{Name, JobName, Scalar, Value}
 use Rattle.tv_value.specs.Orders.{in_order, named, same_name}
@@ -14,12 +14,12 @@ use Rattle.tv_gate.specs.Outcomes.{Giving}
 use Rattle.tv_lineage.specs.Members.{HaveSame}
 use Rattle.tv_lineage.specs.Touching.{Label, label_cmp, touches}
 use Rattle.tv_lineage.specs.Lineages.{IsReached, Record, Leaf, backward, forward, leaf_label}
-use Rattle.tv_lineage.proofs.OfLaws.{backward-closure}
+use Rattle.tv_lineage.proofs.LawLemmas.{backward-closure}
 use Rattle.tv_strategy.specs.Origins.{Mark, given, made, Origin, Traced}
 use Rattle.tv_strategy.specs.Sources.{AtNodes, AtAllNodes}
-use Rattle.tv_strategy.proofs.OfSources.{each-append}
-use Rattle.tv_strategy.proofs.OfEach.{each-all}
-use Rattle.tv_instance.specs.Ranks.{ranked}
+use Rattle.tv_strategy.proofs.Sources.{each-append}
+use Rattle.tv_strategy.proofs.Each.{each-all}
+use Rattle.tv_model.specs.instance.Ranks.{ranked}
 use Rattle.tv_model.specs.Jobs.{Job}
 use Rattle.tv_model.specs.Lineages as model
 use Rattle.tv_model.specs.Made.{Meaning, Opened, Made, feed_value}

@@ -9,7 +9,7 @@ use Rattle.std.proofs.lemmas.Bool.{and_parts}
 use Rattle.std.proofs.lemmas.Cmp.{nat_cmp_total, nat_list_cmp_total, tied_itself}
 use Rattle.std.proofs.lemmas.Option.{cond_some, none-some}
 use Rattle.tv_lemmas.specs.Members.{Each, In}
-use Rattle.tv_lemmas.proofs.OfMembers.{each_in, in-append, in_each, of-flat, of-options}
+use Rattle.tv_lemmas.proofs.Members.{each_in, in-append, in_each, of-flat, of-options}
 use Rattle.tv_value.specs.Nested.{Place, Tree, Trees, leaf, list, no_trees, nodes, nodes_below, nodes_from, tree}
 use Rattle.tv_value.specs.Orders.{name_cmp, place_cmp}
 use Rattle.tv_value.specs.Values.{JobName, Name, Value}

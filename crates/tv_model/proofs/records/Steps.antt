@@ -2,11 +2,11 @@
 use Rattle.std.specs.Prelude.{List}
 use Rattle.std.proofs.Common.{ap, sym, ◌∙◌}
 use Rattle.tv_lemmas.specs.Members.{In}
-use Rattle.tv_lemmas.proofs.OfMembers.{in-map, of-map}
+use Rattle.tv_lemmas.proofs.Members.{in-map, of-map}
 use Rattle.tv_value.specs.Values.{JobName, Name}
 use Rattle.tv_lineage.specs.Lineages.{Record, by_step}
 use Rattle.tv_lineage.specs.Members.{HaveSame}
-use Rattle.tv_lineage.proofs.OfLaws.{by_step-jobs}
+use Rattle.tv_lineage.proofs.LawLemmas.{by_step-jobs}
 use Rattle.tv_model.specs.Lineages.{main_jobs}
 use Rattle.tv_model.specs.Made.{Meaning}
 use Rattle.tv_model.specs.Meanings.{meaning}

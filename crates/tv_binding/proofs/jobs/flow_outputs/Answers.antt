@@ -1,11 +1,11 @@
 use Rattle.std.proofs.Common.{[], is_some, sym, ap, ◌∙◌, subst}
 use Rattle.tv_cell.specs.Soundness.{AreSound}
-use Rattle.tv_outputs.proofs.OfPieces.{more-sound}
+use Rattle.tv_outputs.proofs.PieceLemmas.{more-sound}
 use Rattle.tv_binding.specs.Found.{feed_found}
 use Rattle.tv_binding.specs.Constants.{constants_view}
 use Rattle.tv_binding.specs.Jobs.{output_found}
 use Rattle.tv_binding.specs.Sourced.{known_by}
-use Rattle.tv_binding.proofs.OfSources.{numbered-found, numbered-more, numbered-all}
+use Rattle.tv_binding.proofs.SourceLemmas.{numbered-found, numbered-more, numbered-all}
 use Rattle.tv_binding.proofs.jobs.flow_outputs.Goals as goal
 
 pub feed_piece-requires-clause-found : goal.feed_piece-requires-clause-found

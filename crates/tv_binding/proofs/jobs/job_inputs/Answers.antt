@@ -5,7 +5,7 @@ use Rattle.tv_value.specs.Views.{strategy_view}
 use Rattle.tv_strategy.specs.Conditions.{number_of}
 use Rattle.tv_strategy.specs.Splits.{split}
 use Rattle.tv_cell.specs.Soundness.{AreSound}
-use Rattle.tv_outputs.proofs.OfPieces.{more-sound}
+use Rattle.tv_outputs.proofs.PieceLemmas.{more-sound}
 use Rattle.tv_binding.specs.Constants.{constant_of_port, constants_view}
 use Rattle.tv_binding.specs.Delivered.{wrapped_value}
 use Rattle.tv_binding.specs.Found.{feed_found}
@@ -13,7 +13,7 @@ use Rattle.tv_binding.specs.Jobs.{port_found, wraps}
 use Rattle.tv_binding.specs.Parts.{IsPartOf}
 use Rattle.tv_binding.specs.Sourced.{known_by}
 use Rattle.tv_binding.proofs.Comparing.{each-at, port-at}
-use Rattle.tv_binding.proofs.OfSources.{numbered-found, numbered-more, numbered-all, some-inside}
+use Rattle.tv_binding.proofs.SourceLemmas.{numbered-found, numbered-more, numbered-all, some-inside}
 use Rattle.tv_binding.proofs.jobs.job_inputs.Goals as goal
 
 pub bounds-starts-port : goal.bounds-starts-port

@@ -2,11 +2,11 @@ use Rattle.std.proofs.Common.{◌<◌, length, option_map, sym, ap, ◌∙◌, s
 use Rattle.tv_value.specs.Nested.{at}
 use Rattle.tv_value.specs.Readings.{length_limit}
 use Rattle.tv_value.specs.Views.{view}
-use Rattle.tv_wires.specs.Turned.{links_of}
+use Rattle.tv_check.specs.Turned.{links_of}
 use Rattle.tv_outputs.proofs.Comparing.{told-of}
 use Rattle.tv_binding.specs.Found.{feed_found}
 use Rattle.tv_binding.specs.Sourced.{known_by}
-use Rattle.tv_binding.proofs.OfSources.{links-many}
+use Rattle.tv_binding.proofs.SourceLemmas.{links-many}
 use Rattle.tv_binding.proofs.same.feed_is.Goals as goal
 
 pub merge_is-requires-clause-few : goal.merge_is-requires-clause-few

@@ -6,7 +6,7 @@ use Rattle.tv_value.specs.Views.{strategy_view, view}
 use Rattle.tv_strategy.specs.Conditions.{number_of}
 use Rattle.tv_strategy.specs.Splits.{split}
 use Rattle.tv_naming.specs.Naming.{numbered}
-use Rattle.tv_naming.proofs.OfTold.{length-numbered}
+use Rattle.tv_naming.proofs.Told.{length-numbered}
 use Rattle.tv_outputs.proofs.Comparing.{told-no, told-yes, value-at}
 use Rattle.tv_binding.specs.Constants.{constant_of_port, constants_view}
 use Rattle.tv_binding.specs.Delivered.{wrapped_value}
@@ -15,7 +15,7 @@ use Rattle.tv_binding.specs.Jobs.{port_found, wraps}
 use Rattle.tv_binding.specs.Parts.{IsPartOf}
 use Rattle.tv_binding.specs.Sourced.{known_by}
 use Rattle.tv_binding.proofs.Comparing.{all-many, each-all, each-at, each-more, one-other, port-at}
-use Rattle.tv_binding.proofs.OfSources.{at-number, numbered-found, some-inside}
+use Rattle.tv_binding.proofs.SourceLemmas.{at-number, numbered-found, some-inside}
 use Rattle.tv_binding.proofs.same.job_binds.Goals as goal
 
 pub returns-then-values-step : goal.returns-then-values-step

@@ -6,12 +6,12 @@ use Rattle.tv_value.specs.Nested.{at}
 use Rattle.tv_value.specs.Views.{view}
 use Rattle.tv_cell.specs.PieceValues.{piece_value}
 use Rattle.tv_cell.specs.Soundness.{IsSound}
-use Rattle.tv_cell.proofs.OfPieces.{piece-sound}
+use Rattle.tv_cell.proofs.PieceLemmas.{piece-sound}
 use Rattle.tv_outputs.specs.Known.{known, known_of}
 use Rattle.tv_outputs.proofs.Comparing.{told-of}
 use Rattle.tv_binding.specs.Found.{link_found}
 use Rattle.tv_binding.specs.Sourced.{known_by}
-use Rattle.tv_binding.proofs.OfSources.{input-within, input-is, output-there}
+use Rattle.tv_binding.proofs.SourceLemmas.{input-within, input-is, output-there}
 use Rattle.tv_binding.proofs.same.link_is.Goals as goal
 
 -- ---- an input

@@ -4,12 +4,12 @@ use Rattle.std.proofs.lemmas.List.{length-map}
 use Rattle.tv_value.specs.Values.{Value}
 use Rattle.tv_value.specs.Views.{view}
 use Rattle.tv_outputs.proofs.Comparing.{told-no, told-yes, value-at}
-use Rattle.tv_wires.specs.declared.feeds.NumberedLink.{NumberedLink}
-use Rattle.tv_wires.specs.declared.feeds.NumberedLink.TheVariants.{Input}
+use Rattle.tv_check.specs.declared.feeds.NumberedLink.{NumberedLink}
+use Rattle.tv_check.specs.declared.feeds.NumberedLink.TheVariants.{Input}
 use Rattle.tv_binding.specs.Found.{link_found}
 use Rattle.tv_binding.specs.Sourced.{known_by}
 use Rattle.tv_binding.proofs.Comparing.{all-many, each-all, each-more, one-other}
-use Rattle.tv_binding.proofs.OfSources.{each-found, map-index}
+use Rattle.tv_binding.proofs.SourceLemmas.{each-found, map-index}
 use Rattle.tv_binding.proofs.same.links_are.Goals as goal
 
 pub returns-then-links-values : goal.returns-then-links-values

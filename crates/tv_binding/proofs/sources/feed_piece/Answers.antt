@@ -1,7 +1,7 @@
 use Rattle.std.proofs.Common.{◌<◌, length, sym, ap, ◌∙◌, subst}
 use Rattle.tv_value.specs.Readings.{length_limit}
-use Rattle.tv_wires.specs.Turned.{links_of}
-use Rattle.tv_binding.proofs.OfSources.{links-many}
+use Rattle.tv_check.specs.Turned.{links_of}
+use Rattle.tv_binding.proofs.SourceLemmas.{links-many}
 use Rattle.tv_binding.proofs.sources.feed_piece.Goals as goal
 
 pub merge_piece-requires-clause-few : goal.merge_piece-requires-clause-few

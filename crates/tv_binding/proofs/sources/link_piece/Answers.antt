@@ -6,11 +6,11 @@ use Rattle.tv_cell.specs.declared.piece.Piece.{Piece}
 use Rattle.tv_value.specs.Nested.{at}
 use Rattle.tv_cell.specs.PieceValues.{piece_value}
 use Rattle.tv_cell.specs.Soundness.{IsSound}
-use Rattle.tv_cell.proofs.OfPieces.{piece-sound}
+use Rattle.tv_cell.proofs.PieceLemmas.{piece-sound}
 use Rattle.tv_outputs.specs.Known.{known, known_of}
 use Rattle.tv_binding.specs.Found.{link_found}
 use Rattle.tv_binding.specs.Sourced.{known_by}
-use Rattle.tv_binding.proofs.OfSources.{input-within, input-is, output-there}
+use Rattle.tv_binding.proofs.SourceLemmas.{input-within, input-is, output-there}
 use Rattle.tv_binding.proofs.sources.link_piece.Goals as goal
 
 pub bounds-sources-step : goal.bounds-sources-step

@@ -6,13 +6,13 @@ use Rattle.tv_value.specs.Values.{Value, list_value}
 use Rattle.tv_value.specs.Readings.{length_limit}
 use Rattle.tv_cell.specs.PieceValues.{piece_values}
 use Rattle.tv_cell.specs.Soundness.{AreSound}
-use Rattle.tv_cell.proofs.OfPieces.{list-value}
-use Rattle.tv_outputs.proofs.OfPieces.{list-is-sound}
-use Rattle.tv_wires.specs.declared.feeds.NumberedLink.{NumberedLink}
-use Rattle.tv_wires.specs.declared.feeds.NumberedLink.TheVariants.{Input}
+use Rattle.tv_cell.proofs.PieceLemmas.{list-value}
+use Rattle.tv_outputs.proofs.PieceLemmas.{list-is-sound}
+use Rattle.tv_check.specs.declared.feeds.NumberedLink.{NumberedLink}
+use Rattle.tv_check.specs.declared.feeds.NumberedLink.TheVariants.{Input}
 use Rattle.tv_binding.specs.Found.{link_found, all_found}
 use Rattle.tv_binding.specs.Sourced.{known_by}
-use Rattle.tv_binding.proofs.OfSources.{each-found, found-all, map-index, as-many, some-inside}
+use Rattle.tv_binding.proofs.SourceLemmas.{each-found, found-all, map-index, as-many, some-inside}
 use Rattle.tv_binding.proofs.sources.merged_piece.Goals as goal
 
 pub link_piece-requires-clause-found : goal.link_piece-requires-clause-found

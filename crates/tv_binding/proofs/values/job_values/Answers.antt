@@ -3,7 +3,7 @@ use Rattle.std.specs.Prelude.{option_map}
 use Rattle.std.proofs.lemmas.Option.{get_or_from_slice_get, slice_get_within}
 use Rattle.tv_value.specs.Nested.{items}
 use Rattle.tv_value.specs.Views.{strategy_view, view}
-use Rattle.tv_value.proofs.OfItems.{items-trees_of}
+use Rattle.tv_value.proofs.ItemLemmas.{items-trees_of}
 use Rattle.tv_strategy.specs.Conditions.{number_of}
 use Rattle.tv_strategy.specs.Splits.{split}
 use Rattle.tv_binding.specs.Constants.{constant_of_port, constants_view}
@@ -13,7 +13,7 @@ use Rattle.tv_binding.specs.Jobs.{port_found, wraps}
 use Rattle.tv_binding.specs.Parts.{IsPartOf}
 use Rattle.tv_binding.specs.Sourced.{known_by}
 use Rattle.tv_binding.proofs.Comparing.{each-at, port-at}
-use Rattle.tv_binding.proofs.OfSources.{numbered-found, some-inside, values-all, values-more}
+use Rattle.tv_binding.proofs.SourceLemmas.{numbered-found, some-inside, values-all, values-more}
 use Rattle.tv_binding.proofs.values.job_values.Goals as goal
 
 pub bounds-starts-port : goal.bounds-starts-port

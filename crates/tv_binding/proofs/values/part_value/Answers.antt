@@ -2,8 +2,8 @@ use Rattle.std.proofs.Common.{Some, refl, sym, ap, ◌∙◌}
 use Rattle.std.proofs.lemmas.Result.{IfOk-weaker}
 use Rattle.tv_value.specs.declared.value.Value.{Value}
 use Rattle.tv_cell.specs.Found.{found_value}
-use Rattle.tv_cell.proofs.OfParts.{part-joined, part-joined-sound}
-use Rattle.tv_cell.proofs.OfPieces.{part-sound, part-value}
+use Rattle.tv_cell.proofs.Parts.{part-joined, part-joined-sound}
+use Rattle.tv_cell.proofs.PieceLemmas.{part-sound, part-value}
 use Rattle.tv_binding.proofs.values.part_value.Goals as goal
 
 pub cell_value-requires : goal.cell_value-requires

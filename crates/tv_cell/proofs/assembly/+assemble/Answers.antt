@@ -1,6 +1,6 @@
 use Rattle.std.proofs.Common.{◌<◌, length, subst}
-use Rattle.tv_cell.proofs.OfPieces.{piece-sound, pieces-sound}
-use Rattle.tv_cell.proofs.OfSizes.{list-smaller, piece-smaller, size, sizes}
+use Rattle.tv_cell.proofs.PieceLemmas.{piece-sound, pieces-sound}
+use Rattle.tv_cell.proofs.Sizes.{list-smaller, piece-smaller, size, sizes}
 use Rattle.tv_cell.proofs.assembly.+assemble.Goals as goal
 
 pub assemble-values_of-requires : goal.assemble-values_of-requires

@@ -1,7 +1,7 @@
 use Rattle.std.proofs.Common.{◌≡◌, take, map}
 use Rattle.tv_value.specs.Views.{view}
 use Rattle.tv_cell.specs.PieceValues.{piece_values}
-use Rattle.tv_cell.proofs.OfSizes.{size, sizes}
+use Rattle.tv_cell.proofs.Sizes.{size, sizes}
 use Rattle.tv_cell.proofs.assembly.+assemble.Given as goal
 
 abbrev pub decreases-assemble : goal.decreases-assemble

@@ -1,4 +1,4 @@
-use Rattle.tv_cell.proofs.OfParts.{item-lent}
+use Rattle.tv_cell.proofs.Parts.{item-lent}
 use Rattle.tv_cell.proofs.looking.item_of.Goals as goal
 
 pub returns-in-List : goal.returns-in-List

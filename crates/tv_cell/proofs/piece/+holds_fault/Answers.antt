@@ -1,8 +1,8 @@
 use Rattle.std.proofs.Common.{◌∙◌, ap, sym}
 use Rattle.tv_value.specs.Values.{holds_fault}
 use Rattle.tv_cell.specs.PieceValues.{piece_value}
-use Rattle.tv_cell.proofs.OfFaults.{no-fault-inside}
-use Rattle.tv_cell.proofs.OfPieces.{list-holds, part-value}
+use Rattle.tv_cell.proofs.Faults.{no-fault-inside}
+use Rattle.tv_cell.proofs.PieceLemmas.{list-holds, part-value}
 use Rattle.tv_cell.proofs.piece.+holds_fault.Goals as goal
 
 pub Piece::holds_fault-returns-in-List : goal.Piece::holds_fault-returns-in-List

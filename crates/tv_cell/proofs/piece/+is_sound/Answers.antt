@@ -1,5 +1,5 @@
 use Rattle.std.proofs.Common.{◌∙◌}
-use Rattle.tv_cell.proofs.OfPieces.{list-told}
+use Rattle.tv_cell.proofs.PieceLemmas.{list-told}
 use Rattle.tv_cell.proofs.piece.+is_sound.Goals as goal
 
 pub Piece::is_sound-returns-in-List : goal.Piece::is_sound-returns-in-List

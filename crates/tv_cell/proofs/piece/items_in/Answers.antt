@@ -1,4 +1,4 @@
-use Rattle.tv_cell.proofs.OfPieces.{items-count}
+use Rattle.tv_cell.proofs.PieceLemmas.{items-count}
 use Rattle.tv_cell.proofs.piece.items_in.Goals as goal
 
 pub returns-in-List : goal.returns-in-List

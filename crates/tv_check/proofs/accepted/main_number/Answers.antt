@@ -3,7 +3,7 @@ use Rattle.tv_flow.specs.Views.{each, flow_view}
 use Rattle.tv_naming.specs.Numbers.{position}
 use Rattle.tv_naming.proofs.ByPosition.{number-absent, number-there}
 use Rattle.tv_naming.proofs.Kept.{flows-ascend, has-each}
-use Rattle.tv_check.proofs.OfGraphs.{number_in-each}
+use Rattle.tv_check.proofs.GraphLemmas.{number_in-each}
 use Rattle.tv_check.proofs.accepted.main_number.Goals as goal
 
 pub number_of-requires : goal.number_of-requires

@@ -1,8 +1,8 @@
 use Rattle.std.proofs.Common.{◌∙◌, subst}
 use Rattle.std.proofs.lemmas.Bool.{eqb-true}
 use Rattle.tv_flow.specs.Views.{flow_view}
-use Rattle.tv_depths.specs.Measured.{IsWorked}
-use Rattle.tv_check.proofs.OfPlans.{planned-from}
+use Rattle.tv_check.specs.Measured.{IsWorked}
+use Rattle.tv_check.proofs.PlanLemmas.{planned-from}
 use Rattle.tv_check.proofs.accepted.plan_of.Goals as goal
 
 pub flow_plan-requires-clause-planned : goal.flow_plan-requires-clause-planned

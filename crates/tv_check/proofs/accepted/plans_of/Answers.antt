@@ -6,10 +6,10 @@ use Rattle.tv_flow.specs.Views.{each, flow_view}
 use Rattle.tv_check.specs.FlowPlanViews.{flow_plan_view}
 use Rattle.tv_check.specs.Plannable.{IsToPlan}
 use Rattle.tv_check.specs.Plans.{flow_plan}
-use Rattle.tv_naming.proofs.OfForms.{length-each}
-use Rattle.tv_naming.proofs.OfLists.{map-more, map-now}
-use Rattle.tv_depths.proofs.OfNested.{worked-length}
-use Rattle.tv_naming.proofs.OfTold.{got-in}
+use Rattle.tv_naming.proofs.Forms.{length-each}
+use Rattle.tv_naming.proofs.Lists.{map-more, map-now}
+use Rattle.tv_check.proofs.NestedLemmas.{worked-length}
+use Rattle.tv_naming.proofs.Told.{got-in}
 use Rattle.tv_check.proofs.ToPlan.{orders-many, to-plan}
 use Rattle.tv_check.proofs.accepted.plans_of.Goals as goal
 

@@ -2,8 +2,8 @@ use Rattle.std.proofs.Common.{◌≡◌, ◌∙◌, ◌++◌, [], ap, sym, subst
 use Rattle.std.proofs.lemmas.Bool.{and_parts}
 use Rattle.tv_flow.specs.DocumentViews.{document_view}
 use Rattle.tv_naming.specs.Naming.{naming_complaints}
-use Rattle.tv_depths.specs.Cycles.{cycle_complaints, nesting_complaints, link_cycle_complaints}
-use Rattle.tv_depths.specs.Depthwise.{depth_complaints}
+use Rattle.tv_check.specs.Cycles.{cycle_complaints, nesting_complaints, link_cycle_complaints}
+use Rattle.tv_check.specs.Depthwise.{depth_complaints}
 use Rattle.tv_naming.specs.Inputs.{given_complaints}
 use Rattle.tv_naming.specs.Faulty.{first_of}
 use Rattle.tv_check.specs.Plannable.{AreByRank, IsPlannable}

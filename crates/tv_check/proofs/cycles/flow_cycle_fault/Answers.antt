@@ -2,11 +2,11 @@ use Rattle.std.proofs.Common.{Some, ap, sym, ◌∙◌, subst, ◌<◌, length, 
 use Rattle.tv_value.specs.Values.{Name}
 use Rattle.tv_flow.specs.Views.{flow_view}
 use Rattle.tv_flow.specs.DocumentViews.{document_view}
-use Rattle.tv_graph.specs.Graphs.{first_on_cycle}
-use Rattle.tv_depths.specs.Cycles.{opened_flows}
+use Rattle.tv_naming.specs.graphs.Graphs.{first_on_cycle}
+use Rattle.tv_check.specs.Cycles.{opened_flows}
 use Rattle.tv_naming.specs.Faulty.{at_flow, flow_cycle, CheckComplaint, plainly}
-use Rattle.tv_check.proofs.OfCycles.{no-cycle, cycle-inside, cycle-told}
-use Rattle.tv_naming.proofs.OfForms.{flows-named, rise-each}
+use Rattle.tv_check.proofs.CycleLemmas.{no-cycle, cycle-inside, cycle-told}
+use Rattle.tv_naming.proofs.Forms.{flows-named, rise-each}
 use Rattle.tv_check.proofs.cycles.flow_cycle_fault.Goals as goal
 
 abbrev complaint : Name → CheckComplaint

@@ -1,11 +1,11 @@
 use Rattle.std.proofs.Common.{Some, ap, sym, ◌∙◌, subst, ◌<◌, length, get_or}
 use Rattle.tv_value.specs.Values.{Name}
 use Rattle.tv_flow.specs.Views.{step_view, flow_view}
-use Rattle.tv_graph.specs.Graphs.{first_on_cycle}
-use Rattle.tv_instance.specs.Ranks.{earlier_steps}
+use Rattle.tv_naming.specs.graphs.Graphs.{first_on_cycle}
+use Rattle.tv_model.specs.instance.Ranks.{earlier_steps}
 use Rattle.tv_naming.specs.Faulty.{at_step, link_cycle, CheckComplaint, plainly}
-use Rattle.tv_check.proofs.OfCycles.{no-cycle, cycle-inside, cycle-told}
-use Rattle.tv_naming.proofs.OfForms.{steps-named, rise-each}
+use Rattle.tv_check.proofs.CycleLemmas.{no-cycle, cycle-inside, cycle-told}
+use Rattle.tv_naming.proofs.Forms.{steps-named, rise-each}
 use Rattle.tv_check.proofs.cycles.flow_link_cycle.Goals as goal
 
 abbrev complaint : Name → Name → CheckComplaint

@@ -4,12 +4,12 @@ use Rattle.tv_flow.specs.declared.document.Flow.{Flow}
 use Rattle.tv_flow.specs.Views.{each, flow_view}
 use Rattle.tv_flow.specs.DocumentViews.{document_view}
 use Rattle.tv_value.specs.Values.{Name}
-use Rattle.tv_depths.specs.Cycles.{flow_link_cycles}
+use Rattle.tv_check.specs.Cycles.{flow_link_cycles}
 use Rattle.tv_naming.specs.Faulty.{CheckComplaint, first_of}
 use Rattle.tv_naming.specs.FaultViews.{fault_view}
-use Rattle.tv_naming.proofs.OfLists.{flat_map-map}
-use Rattle.tv_check.proofs.OfCycles.{passed, stopped, passed-all}
-use Rattle.tv_naming.proofs.OfForms.{flow-at}
+use Rattle.tv_naming.proofs.Lists.{flat_map-map}
+use Rattle.tv_check.proofs.CycleLemmas.{passed, stopped, passed-all}
+use Rattle.tv_naming.proofs.Forms.{flow-at}
 use Rattle.tv_check.proofs.cycles.link_cycle_fault.Goals as goal
 
 abbrev told : Name × Flow → List CheckComplaint

@@ -1,7 +1,7 @@
 use Rattle.std.proofs.Common.{◌≡◌, drop}
 use Rattle.std.specs.Prelude.{flat_map}
 use Rattle.tv_flow.specs.Views.{flow_view}
-use Rattle.tv_depths.specs.Cycles.{flow_link_cycles}
+use Rattle.tv_check.specs.Cycles.{flow_link_cycles}
 use Rattle.tv_naming.specs.Faulty.{first_of}
 use Rattle.tv_check.proofs.cycles.link_cycle_fault.Given as goal
 

@@ -5,11 +5,11 @@ use Rattle.tv_value.specs.Values.{Name}
 use Rattle.tv_flow.specs.Flows.{Flow, Document}
 use Rattle.tv_flow.specs.Views.{flow_view}
 use Rattle.tv_flow.specs.DocumentViews.{document_view}
-use Rattle.tv_depths.specs.Cycles.{nesting}
-use Rattle.tv_instance.specs.Nesting.{nesting_limit}
+use Rattle.tv_check.specs.Cycles.{nesting}
+use Rattle.tv_model.specs.instance.Nesting.{nesting_limit}
 use Rattle.tv_naming.specs.Faulty.{at_flow, too_deep, CheckComplaint, with_numbers}
-use Rattle.tv_naming.proofs.OfForms.{length-each, entry-each}
-use Rattle.tv_check.proofs.OfNestings.{no-position, a-position, number-at}
+use Rattle.tv_naming.proofs.Forms.{length-each, entry-each}
+use Rattle.tv_check.proofs.Nestings.{no-position, a-position, number-at}
 use Rattle.tv_check.proofs.cycles.nesting_fault.Goals as goal
 
 module _ (d : Document) where

@@ -2,9 +2,9 @@ use Rattle.std.proofs.Common.{◌≡◌, ap, ◌∙◌, subst}
 use Rattle.std.specs.Result.{IfOk}
 use Rattle.tv_flow.specs.Views.{flow_view}
 use Rattle.tv_flow.specs.DocumentViews.{document_view}
-use Rattle.tv_graph.specs.Graphs.{first_on_cycle, heights}
-use Rattle.tv_naming.proofs.OfForms.{flows-named, rise-each}
-use Rattle.tv_check.proofs.OfNestings.{nestings-are, cycle-free}
+use Rattle.tv_naming.specs.graphs.Graphs.{first_on_cycle, heights}
+use Rattle.tv_naming.proofs.Forms.{flows-named, rise-each}
+use Rattle.tv_check.proofs.Nestings.{nestings-are, cycle-free}
 use Rattle.tv_check.proofs.cycles.nestings.Goals as goal
 
 pub flow_graph-requires-clause-in_order : goal.flow_graph-requires-clause-in_order

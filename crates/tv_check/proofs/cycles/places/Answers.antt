@@ -1,6 +1,6 @@
 use Rattle.std.proofs.Common.{◌≡◌, ◌+◌, ◌-◌, ◌<◌, sym, subst, length, arith, refl, get_or, rules}
 use Rattle.std.specs.Prelude.{replicate}
-use Rattle.tv_check.proofs.OfPlaces.{IsFilled, filled-none, filled-more, filled-all, below-at}
+use Rattle.tv_check.proofs.Places.{IsFilled, filled-none, filled-more, filled-all, below-at}
 use Rattle.tv_check.proofs.cycles.places.Goals as goal
 
 pub loop-place-init : goal.loop-place-init

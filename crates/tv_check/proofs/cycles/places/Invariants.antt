@@ -1,4 +1,4 @@
-use Rattle.tv_check.proofs.OfPlaces.{IsFilled}
+use Rattle.tv_check.proofs.Places.{IsFilled}
 use Rattle.tv_check.proofs.cycles.places.Given as goal
 
 abbrev pub invariant-loop-place : goal.invariant-loop-place

@@ -4,8 +4,8 @@ use Rattle.std.specs.List.{list_all, range_with_len}
 use Rattle.std.specs.Result.{IfOk}
 use Rattle.tv_flow.specs.Views.{step_view, flow_view}
 use Rattle.tv_check.specs.RankNumbers.{first_at}
-use Rattle.tv_naming.proofs.OfForms.{steps-named, length-each}
-use Rattle.tv_check.proofs.OfRanks.{ranked-below, ranked-few, ranks-placed}
+use Rattle.tv_naming.proofs.Forms.{steps-named, length-each}
+use Rattle.tv_check.proofs.Ranks.{ranked-below, ranked-few, ranks-placed}
 use Rattle.tv_check.proofs.cycles.ranks.Goals as goal
 
 pub places-requires-clause-few : goal.places-requires-clause-few

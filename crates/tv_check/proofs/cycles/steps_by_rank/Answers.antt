@@ -2,10 +2,10 @@ use Rattle.std.proofs.Common.{◌≡◌, ap, sym, ◌∙◌, length}
 use Rattle.std.specs.Prelude.{nat_lt}
 use Rattle.std.specs.List.{list_all}
 use Rattle.tv_flow.specs.Views.{each, step_view, flow_view}
-use Rattle.tv_graph.specs.Graphs.{by_least}
+use Rattle.tv_naming.specs.graphs.Graphs.{by_least}
 use Rattle.tv_check.specs.RankNumbers.{numbers_by_rank}
-use Rattle.tv_naming.proofs.OfForms.{steps-named, rise-each, length-each}
-use Rattle.tv_check.proofs.OfRanks.{ranked-numbers, ranked-below}
+use Rattle.tv_naming.proofs.Forms.{steps-named, rise-each, length-each}
+use Rattle.tv_check.proofs.Ranks.{ranked-numbers, ranked-below}
 use Rattle.tv_check.proofs.cycles.steps_by_rank.Goals as goal
 
 pub step_graph-requires-clause-in_order : goal.step_graph-requires-clause-in_order

@@ -2,7 +2,7 @@ use Rattle.std.proofs.Common.{◌++◌, ap, sym, ◌∙◌}
 use Rattle.std.specs.Prelude.{flat_map}
 use Rattle.std.proofs.lemmas.List.Elements.{filter_map-append}
 use Rattle.tv_flow.specs.Views.{each, step_input_view}
-use Rattle.tv_instance.specs.Ranks.{feed_steps}
+use Rattle.tv_model.specs.instance.Ranks.{feed_steps}
 use Rattle.tv_naming.specs.Numbers.{number_in}
 use Rattle.tv_check.specs.NamedGraphs.{numbers_of}
 use Rattle.tv_check.proofs.graphs.earlier_numbers.Goals as goal

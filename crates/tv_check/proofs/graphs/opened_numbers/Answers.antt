@@ -1,10 +1,10 @@
 use Rattle.std.proofs.Common.{◌++◌, [], ap, sym, ◌∙◌, map}
 use Rattle.std.specs.Prelude.{flat_map, filter_map}
 use Rattle.tv_flow.specs.Views.{each, activity_view, step_view}
-use Rattle.tv_depths.specs.Cycles.{opened_flow}
+use Rattle.tv_check.specs.Cycles.{opened_flow}
 use Rattle.tv_naming.specs.Numbers.{number_in}
 use Rattle.tv_check.specs.NamedGraphs.{numbers_of}
-use Rattle.tv_naming.proofs.OfLists.{one-more, all-now, flat_map-map}
+use Rattle.tv_naming.proofs.Lists.{one-more, all-now, flat_map-map}
 use Rattle.tv_check.proofs.graphs.opened_numbers.Goals as goal
 
 pub loop-step-preserved : goal.loop-step-preserved

@@ -1,7 +1,7 @@
 use Rattle.std.proofs.Common.{◌≡◌, take, map}
 use Rattle.std.specs.Prelude.{flat_map, filter_map}
 use Rattle.tv_flow.specs.Views.{activity_view}
-use Rattle.tv_depths.specs.Cycles.{opened_flow}
+use Rattle.tv_check.specs.Cycles.{opened_flow}
 use Rattle.tv_check.specs.NamedGraphs.{numbers_of}
 use Rattle.tv_check.proofs.graphs.opened_numbers.Given as goal
 

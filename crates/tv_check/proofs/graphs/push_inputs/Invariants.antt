@@ -1,7 +1,7 @@
 use Rattle.std.proofs.Common.{◌≡◌, ◌++◌, take}
 use Rattle.std.specs.Prelude.{flat_map}
 use Rattle.tv_flow.specs.Views.{feed_view}
-use Rattle.tv_instance.specs.Ranks.{feed_steps}
+use Rattle.tv_model.specs.instance.Ranks.{feed_steps}
 use Rattle.tv_check.specs.NamedGraphs.{numbers_of}
 use Rattle.tv_check.proofs.graphs.push_inputs.Given as goal
 

@@ -1,10 +1,10 @@
 use Rattle.std.proofs.Common.{◌++◌, ap, sym, ◌∙◌, map}
 use Rattle.std.specs.Prelude.{flat_map}
 use Rattle.tv_flow.specs.Views.{link_view}
-use Rattle.tv_instance.specs.Ranks.{link_step}
+use Rattle.tv_model.specs.instance.Ranks.{link_step}
 use Rattle.tv_naming.specs.Numbers.{number_in}
 use Rattle.tv_check.specs.NamedGraphs.{numbers_of}
-use Rattle.tv_naming.proofs.OfLists.{one-more, all-now, flat_map-map}
+use Rattle.tv_naming.proofs.Lists.{one-more, all-now, flat_map-map}
 use Rattle.tv_check.proofs.graphs.push_links.Goals as goal
 
 pub loop-link-preserved : goal.loop-link-preserved

@@ -1,7 +1,7 @@
 use Rattle.std.proofs.Common.{◌≡◌, ◌++◌, take}
 use Rattle.std.specs.Prelude.{flat_map}
 use Rattle.tv_flow.specs.Views.{link_view}
-use Rattle.tv_instance.specs.Ranks.{link_step}
+use Rattle.tv_model.specs.instance.Ranks.{link_step}
 use Rattle.tv_check.specs.NamedGraphs.{numbers_of}
 use Rattle.tv_check.proofs.graphs.push_links.Given as goal
 

@@ -2,7 +2,7 @@ use Rattle.std.proofs.Common.{◌++◌, ◌∷◌, [], ap, ◌∙◌}
 use Rattle.tv_lemmas.proofs.Lists.{flat-singles}
 use Rattle.tv_naming.specs.Numbers.{number_in}
 use Rattle.tv_check.specs.NamedGraphs.{numbers_of}
-use Rattle.tv_naming.proofs.OfLists.{one-more, all-now}
+use Rattle.tv_naming.proofs.Lists.{one-more, all-now}
 use Rattle.tv_check.proofs.graphs.push_names.Goals as goal
 
 pub loop-name-preserved : goal.loop-name-preserved

@@ -1,11 +1,11 @@
 use Rattle.std.proofs.Common.{map, ap, sym, ◌∙◌, subst, ◌<◌, ◌^◌}
 use Rattle.std.proofs.lemmas.List.{length-map}
 use Rattle.tv_flow.specs.Views.{each, step_view}
-use Rattle.tv_graph.specs.Graphs.{is_graph}
-use Rattle.tv_instance.specs.Ranks.{earlier_steps}
+use Rattle.tv_naming.specs.graphs.Graphs.{is_graph}
+use Rattle.tv_model.specs.instance.Ranks.{earlier_steps}
 use Rattle.tv_check.specs.NamedGraphs.{numbers_of}
-use Rattle.tv_naming.proofs.OfLists.{map-more, map-now}
-use Rattle.tv_check.proofs.OfGraphs.{graph_of-is, graph_of-each}
+use Rattle.tv_naming.proofs.Lists.{map-more, map-now}
+use Rattle.tv_check.proofs.GraphLemmas.{graph_of-is, graph_of-each}
 use Rattle.tv_check.proofs.graphs.step_graph.Goals as goal
 
 pub of-requires : goal.of-requires

@@ -1,6 +1,6 @@
 use Rattle.std.proofs.Common.{◌≡◌, map, take}
 use Rattle.tv_flow.specs.Views.{step_view}
-use Rattle.tv_instance.specs.Ranks.{earlier_steps}
+use Rattle.tv_model.specs.instance.Ranks.{earlier_steps}
 use Rattle.tv_check.specs.NamedGraphs.{numbers_of}
 use Rattle.tv_check.proofs.graphs.step_graph.Given as goal
 

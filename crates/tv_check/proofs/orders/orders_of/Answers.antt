@@ -4,8 +4,8 @@ use Rattle.tv_flow.specs.DocumentViews.{document_view}
 use Rattle.tv_flow.specs.Views.{each, flow_view}
 use Rattle.tv_check.specs.RankNumbers.{numbers_by_rank}
 use Rattle.tv_check.specs.NamedGraphs.{links_inside}
-use Rattle.tv_naming.proofs.OfForms.{passes-at, flow-at}
-use Rattle.tv_naming.proofs.OfLists.{list_all-at, map-more, map-now}
+use Rattle.tv_naming.proofs.Forms.{passes-at, flow-at}
+use Rattle.tv_naming.proofs.Lists.{list_all-at, map-more, map-now}
 use Rattle.tv_check.proofs.orders.orders_of.Goals as goal
 
 pub steps_by_rank-requires-clause-formed : goal.steps_by_rank-requires-clause-formed

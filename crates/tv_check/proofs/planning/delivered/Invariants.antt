@@ -1,6 +1,6 @@
 use Rattle.std.proofs.Common.{◌≡◌, take, map}
 use Rattle.tv_flow.specs.Views.{each, flow_view, step_input_view}
-use Rattle.tv_depths.specs.Tables.{table_depth}
+use Rattle.tv_check.specs.Tables.{table_depth}
 use Rattle.tv_check.proofs.planning.delivered.Given as goal
 
 abbrev pub invariant-loop-port : goal.invariant-loop-port

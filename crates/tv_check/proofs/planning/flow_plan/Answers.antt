@@ -1,7 +1,7 @@
 use Rattle.std.proofs.Common.{◌∙◌, sym, subst, map}
 use Rattle.tv_flow.specs.Views.{flow_view}
 use Rattle.tv_check.specs.PlanViews.{step_plan_view, IsOfDocument}
-use Rattle.tv_check.proofs.OfPlans.{plan-made}
+use Rattle.tv_check.proofs.PlanLemmas.{plan-made}
 use Rattle.tv_check.proofs.planning.flow_plan.Goals as goal
 
 pub invariant_of-result : goal.invariant_of-result

@@ -5,10 +5,10 @@ use Rattle.tv_value.specs.Values.{Name}
 use Rattle.tv_flow.specs.Flows.{Step}
 use Rattle.tv_flow.specs.Views.{flow_view, step_view}
 use Rattle.tv_strategy.specs.Measures.{leaf_names}
-use Rattle.tv_depths.proofs.OfLinks.{each-get}
-use Rattle.tv_naming.proofs.OfTold.{got-in}
-use Rattle.tv_wires.specs.Ports.{ports_of}
-use Rattle.tv_wires.proofs.Counting.{image-more}
+use Rattle.tv_check.proofs.Links.{each-get}
+use Rattle.tv_naming.proofs.Told.{got-in}
+use Rattle.tv_check.specs.Ports.{ports_of}
+use Rattle.tv_check.proofs.Counting.{image-more}
 use Rattle.tv_check.specs.PlanViews.{step_plan_view}
 use Rattle.tv_check.specs.Plans.{step_plan}
 use Rattle.tv_check.proofs.Wired.{leaves-few, same-at}

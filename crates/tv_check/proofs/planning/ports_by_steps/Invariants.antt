@@ -1,6 +1,6 @@
 use Rattle.std.proofs.Common.{◌≡◌, map, take}
 use Rattle.tv_flow.specs.Views.{flow_view}
-use Rattle.tv_wires.specs.Ports.{ports_of}
+use Rattle.tv_check.specs.Ports.{ports_of}
 use Rattle.tv_check.proofs.planning.ports_by_steps.Given as goal
 
 abbrev pub invariant-loop-number : goal.invariant-loop-number

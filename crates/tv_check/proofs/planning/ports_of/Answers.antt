@@ -1,8 +1,8 @@
 use Rattle.std.proofs.Common.{◌≤◌, ◌∙◌, ap, map, length, arith}
 use Rattle.tv_value.specs.Strategies.{port}
 use Rattle.tv_value.specs.Views.{strategies_of}
-use Rattle.tv_depths.proofs.OfDepths.{take-whole}
-use Rattle.tv_check.proofs.OfPlans.{ports-listed}
+use Rattle.tv_check.proofs.DepthLemmas.{take-whole}
+use Rattle.tv_check.proofs.PlanLemmas.{ports-listed}
 use Rattle.tv_check.proofs.planning.ports_of.Goals as goal
 
 pub returns : goal.returns

@@ -5,9 +5,9 @@ use Rattle.tv_flow.specs.Views.{flow_view, step_view}
 use Rattle.tv_check.specs.PlanViews.{step_plan_view}
 use Rattle.tv_check.specs.Plans.{step_plan}
 use Rattle.tv_check.specs.Planned.{planned}
-use Rattle.tv_depths.proofs.OfLinks.{each-get}
-use Rattle.tv_check.proofs.OfPlans.{level-at, plan-at, push-mapped}
-use Rattle.tv_naming.proofs.OfTold.{got-in}
+use Rattle.tv_check.proofs.Links.{each-get}
+use Rattle.tv_check.proofs.PlanLemmas.{level-at, plan-at, push-mapped}
+use Rattle.tv_naming.proofs.Told.{got-in}
 use Rattle.tv_check.proofs.planning.step_plans.Goals as goal
 
 pub known_level-depth-requires : goal.known_level-depth-requires

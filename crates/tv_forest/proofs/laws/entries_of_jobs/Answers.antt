@@ -1,4 +1,4 @@
-use Rattle.tv_forest.proofs.OfEntries.{handing-out_again, handing-out_first, settling, trying-again}
+use Rattle.tv_forest.proofs.Entries.{handing-out_again, handing-out_first, settling, trying-again}
 use Rattle.tv_forest.proofs.laws.entries_of_jobs.Goals as goal
 
 pub returns : goal.returns

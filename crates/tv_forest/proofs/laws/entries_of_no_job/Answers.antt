@@ -1,5 +1,5 @@
-use Rattle.tv_forest.proofs.OfEntries.{level-settling}
-use Rattle.tv_forest.proofs.OfRecalls.{recalling}
+use Rattle.tv_forest.proofs.Entries.{level-settling}
+use Rattle.tv_forest.proofs.Recalls.{recalling}
 use Rattle.tv_forest.proofs.laws.entries_of_no_job.Goals as goal
 
 pub returns : goal.returns

@@ -1,6 +1,6 @@
-use Rattle.tv_forest.proofs.OfEnds.{ending}
-use Rattle.tv_forest.proofs.OfMainEnd.{ending-main, none-open_at_end}
-use Rattle.tv_forest.proofs.OfOpening.{opening}
+use Rattle.tv_forest.proofs.Ends.{ending}
+use Rattle.tv_forest.proofs.MainEnd.{ending-main, none-open_at_end}
+use Rattle.tv_forest.proofs.Opening.{opening}
 use Rattle.tv_forest.proofs.laws.instances_come_and_go.Goals as goal
 
 pub returns : goal.returns

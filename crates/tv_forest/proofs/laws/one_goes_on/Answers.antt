@@ -1,4 +1,4 @@
-use Rattle.tv_forest.proofs.OfOne.{one-goes_on}
+use Rattle.tv_forest.proofs.One.{one-goes_on}
 use Rattle.tv_forest.proofs.laws.one_goes_on.Goals as goal
 
 pub returns : goal.returns

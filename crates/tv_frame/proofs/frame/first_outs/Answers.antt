@@ -2,8 +2,8 @@ use Rattle.std.specs.Prelude.{length}
 use Rattle.std.proofs.Common.{sym, ap, ◌∙◌}
 use Rattle.tv_binding.specs.Constants.{constants_view}
 use Rattle.tv_binding.specs.Sourced.{known_by}
-use Rattle.tv_frame.proofs.OfFirstOuts.{first-found, first-outs, outputs-counted}
-use Rattle.tv_frame.proofs.OfTables.{as-many-steps}
+use Rattle.tv_frame.proofs.FirstOuts.{first-found, first-outs, outputs-counted}
+use Rattle.tv_frame.proofs.TableLemmas.{as-many-steps}
 use Rattle.tv_frame.proofs.frame.first_outs.Goals as goal
 
 pub flow_outputs-requires-clause-counted : goal.flow_outputs-requires-clause-counted

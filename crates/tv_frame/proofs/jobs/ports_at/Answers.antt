@@ -1,9 +1,9 @@
 use Rattle.std.proofs.Common.{◌<◌, length, refl, sym, ap, subst, ◌∙◌, Some}
 use Rattle.tv_value.specs.Values.{Name}
 use Rattle.tv_flow.specs.declared.document.Step.{Step as CodeStep}
-use Rattle.tv_naming.proofs.OfTold.{got-in}
-use Rattle.tv_frame.proofs.OfJobInputs.{ports-many}
-use Rattle.tv_frame.proofs.OfTables.{as-many-code}
+use Rattle.tv_naming.proofs.Told.{got-in}
+use Rattle.tv_frame.proofs.JobInputs.{ports-many}
+use Rattle.tv_frame.proofs.TableLemmas.{as-many-code}
 use Rattle.tv_frame.proofs.jobs.ports_at.Goals as goal
 
 pub returns : goal.returns

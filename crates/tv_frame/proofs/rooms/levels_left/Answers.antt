@@ -1,7 +1,7 @@
 use Rattle.std.proofs.Common.{arith, ◌≡◌, ◌∙◌, ap, length, slice_index_or}
 use Rattle.tv_flow.specs.Views.{flow_view}
-use Rattle.tv_depths.specs.Tables.{step_level}
-use Rattle.tv_frame.proofs.OfFaultingRead.{planned}
+use Rattle.tv_check.specs.Tables.{step_level}
+use Rattle.tv_frame.proofs.FaultingRead.{planned}
 use Rattle.tv_frame.proofs.rooms.levels_left.Goals as goal
 
 pub returns-in-Ok : goal.returns-in-Ok

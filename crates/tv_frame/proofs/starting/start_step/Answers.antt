@@ -5,8 +5,8 @@ use Rattle.tv_intake.specs.Intaken.{known_jobs}
 use Rattle.tv_spread.specs.Spreads.{is_faulty_now, with_all_new}
 use Rattle.std.specs.Prelude.{drop}
 use Rattle.tv_frame.specs.Started.{but_at}
-use Rattle.tv_frame.proofs.OfBeginning.{but-other, but-own, started-none, step-begun}
-use Rattle.tv_frame.proofs.OfFirstRooms.{added-at, as-many, first-jobs, levels-before, levels-last, plan-parts, same-jobs, step-room}
+use Rattle.tv_frame.proofs.Beginning.{but-other, but-own, started-none, step-begun}
+use Rattle.tv_frame.proofs.FirstRooms.{added-at, as-many, first-jobs, levels-before, levels-last, plan-parts, same-jobs, step-room}
 use Rattle.tv_frame.proofs.starting.start_step.Goals as goal
 
 pub add-requires-clause-sound : goal.add-requires-clause-sound

@@ -5,17 +5,17 @@ use Rattle.std.proofs.lemmas.List.{length-map}
 use Rattle.tv_value.specs.Values.{holds_fault}
 use Rattle.tv_value.specs.Views.{strategy_view}
 use Rattle.tv_cell.specs.PieceValues.{piece_value, piece_values}
-use Rattle.tv_instance.specs.Steps.{strategy_of}
+use Rattle.tv_model.specs.instance.Steps.{strategy_of}
 use Rattle.tv_match.specs.Seen.{bound_telling}
 use Rattle.tv_frame.specs.FirstTellings.{AreFed}
-use Rattle.tv_naming.proofs.OfTold.{got-in}
+use Rattle.tv_naming.proofs.Told.{got-in}
 use Rattle.tv_binding.specs.Constants.{constant_of_port, constants_view}
 use Rattle.tv_intake.specs.Intaken.{matcher_at}
 use Rattle.tv_frame.specs.Started.{HaveBegun, at_start, but_at, given_values}
-use Rattle.tv_frame.proofs.OfFirstHeld.{all-begun, bound-below, bound-can_be_told, can-hold, given-ports, levelled, nothing-told, plan-agrees, plan-deep, plan-suits, ports-own, ports-there, told-is, told-one}
-use Rattle.tv_frame.proofs.OfFirstRooms.{plan-parts}
-use Rattle.tv_frame.proofs.OfOrder.{few-steps}
-use Rattle.tv_frame.proofs.OfTables.{step-of}
+use Rattle.tv_frame.proofs.FirstHeld.{all-begun, bound-below, bound-can_be_told, can-hold, given-ports, levelled, nothing-told, plan-agrees, plan-deep, plan-suits, ports-own, ports-there, told-is, told-one}
+use Rattle.tv_frame.proofs.FirstRooms.{plan-parts}
+use Rattle.tv_frame.proofs.Order.{few-steps}
+use Rattle.tv_frame.proofs.TableLemmas.{step-of}
 use Rattle.tv_frame.proofs.starting.start_steps.Goals.{in-Some+in_ok-start_whole, in_default+in_ok-told+in_ok-start_step+in_ok-tell}
 use Rattle.tv_frame.proofs.starting.start_steps.Goals as goal
 

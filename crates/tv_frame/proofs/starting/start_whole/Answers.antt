@@ -5,8 +5,8 @@ use Rattle.tv_match.specs.Seen.{bound_telling}
 use Rattle.tv_intake.specs.Intaken.{known_jobs}
 use Rattle.tv_spread.specs.Spreads.{is_faulty_now, with_all_new}
 use Rattle.std.specs.Prelude.{drop}
-use Rattle.tv_frame.proofs.OfBeginning.{step-begun}
-use Rattle.tv_frame.proofs.OfFirstRooms.{added-at, as-many, first-jobs, levels-before, levels-last, plan-parts, same-jobs, step-room}
+use Rattle.tv_frame.proofs.Beginning.{step-begun}
+use Rattle.tv_frame.proofs.FirstRooms.{added-at, as-many, first-jobs, levels-before, levels-last, plan-parts, same-jobs, step-room}
 use Rattle.tv_frame.proofs.starting.start_whole.Goals as goal
 
 pub add_bound-requires-clause-sound : goal.add_bound-requires-clause-sound

@@ -5,7 +5,7 @@ use Rattle.tv_cell.specs.PieceValues.{piece_values}
 use Rattle.tv_match.specs.Seen.{told_view}
 use Rattle.tv_binding.specs.Constants.{constant_of_port, constants_view}
 use Rattle.tv_telling.specs.Openings.{numbered_port_start}
-use Rattle.tv_frame.proofs.OfStarting.{fed-lent, fixed-lent, ports-all, ports-next}
+use Rattle.tv_frame.proofs.StartingLemmas.{fed-lent, fixed-lent, ports-all, ports-next}
 use Rattle.tv_frame.proofs.starting.step_start.Goals as goal
 
 pub port_start-requires : goal.port_start-requires

@@ -3,10 +3,10 @@ use Rattle.std.proofs.Common.{ap, subst, sym, ◌∙◌}
 use Rattle.tv_idle.specs.Idles.{of_step}
 use Rattle.tv_intake.specs.Intaken.{CanShow, HoldsThese, known_jobs, matcher_at}
 use Rattle.tv_spread.specs.Spreads.{is_faulty_now, with_all_new}
-use Rattle.tv_spread.proofs.OfReserving.{intaken-same, known-same, matcher-same, waiting-same}
-use Rattle.tv_spread.proofs.OfShowing.{Shows}
-use Rattle.tv_frame.proofs.OfFirstTold.{can-show, step-told}
-use Rattle.tv_frame.proofs.OfFirstRooms.{new-numbers, new-places-at, taken-jobs, taken-levels, taken-many}
+use Rattle.tv_spread.proofs.Reserving.{intaken-same, known-same, matcher-same, waiting-same}
+use Rattle.tv_spread.proofs.Showing.{Shows}
+use Rattle.tv_frame.proofs.FirstTold.{can-show, step-told}
+use Rattle.tv_frame.proofs.FirstRooms.{new-numbers, new-places-at, taken-jobs, taken-levels, taken-many}
 use Rattle.tv_frame.proofs.starting.tell.Goals as goal
 
 pub new_jobs-good-requires-clause-can : goal.new_jobs-good-requires-clause-can

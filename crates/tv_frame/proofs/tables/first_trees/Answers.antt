@@ -1,6 +1,6 @@
 use Rattle.std.proofs.Common.{◌≡◌, ◌+◌, arith}
 use Rattle.tv_flow.specs.Views.{flow_view}
-use Rattle.tv_frame.proofs.OfTables.{first-none, firsts-next, within-flow}
+use Rattle.tv_frame.proofs.TableLemmas.{first-none, firsts-next, within-flow}
 use Rattle.tv_frame.proofs.tables.first_trees.Goals as goal
 
 pub loop-step-init : goal.loop-step-init

@@ -1,5 +1,5 @@
 use Rattle.std.proofs.Common.{arith, ◌∙◌}
-use Rattle.tv_frame.proofs.OfPlanLevels.{planned-levels}
+use Rattle.tv_frame.proofs.PlanLevels.{planned-levels}
 use Rattle.tv_frame.proofs.tables.levels_of.Goals as goal
 
 pub returns : goal.returns

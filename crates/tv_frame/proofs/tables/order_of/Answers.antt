@@ -1,5 +1,5 @@
 use Rattle.std.proofs.Common.{arith}
-use Rattle.tv_frame.proofs.OfOrder.{few-steps, fill-more, filled-all, rank-low}
+use Rattle.tv_frame.proofs.Order.{few-steps, fill-more, filled-all, rank-low}
 use Rattle.tv_frame.proofs.tables.order_of.Goals as goal
 
 pub overflow_sub-at-in-loop-number : goal.overflow_sub-at-in-loop-number

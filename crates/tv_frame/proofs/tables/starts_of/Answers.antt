@@ -1,6 +1,6 @@
 use Rattle.std.proofs.Common.{◌∙◌, ap, map}
-use Rattle.tv_naming.proofs.OfTold.{got-in}
-use Rattle.tv_frame.proofs.OfTables.{all-begin, begins, levels-small, take-same}
+use Rattle.tv_naming.proofs.Told.{got-in}
+use Rattle.tv_frame.proofs.TableLemmas.{all-begin, begins, levels-small, take-same}
 use Rattle.tv_frame.proofs.tables.starts_of.Goals as goal
 
 pub leaf_starts-requires : goal.leaf_starts-requires

@@ -1,5 +1,5 @@
 use Rattle.std.specs.Prelude.{◌≡◌, map, take}
-use Rattle.tv_frame.proofs.OfTables.{begins}
+use Rattle.tv_frame.proofs.TableLemmas.{begins}
 use Rattle.tv_frame.proofs.tables.starts_of.Given as goal
 
 abbrev pub invariant-loop-step : goal.invariant-loop-step

@@ -1,4 +1,4 @@
-use Rattle.tv_frame.proofs.OfTables.{depths-next}
+use Rattle.tv_frame.proofs.TableLemmas.{depths-next}
 use Rattle.tv_frame.proofs.tables.tree_depths.Goals as goal
 
 pub loop-number-preserved : goal.loop-number-preserved

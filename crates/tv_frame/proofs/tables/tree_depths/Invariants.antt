@@ -1,7 +1,7 @@
 use Rattle.std.specs.Prelude.{◌≡◌, flat_map, replicate, take}
 use Rattle.tv_flow.specs.Views.{flow_view}
 use Rattle.tv_frame.specs.Tables.{trees_of}
-use Rattle.tv_depths.specs.Tables.{step_level}
+use Rattle.tv_check.specs.Tables.{step_level}
 use Rattle.tv_frame.proofs.tables.tree_depths.Given as goal
 
 abbrev pub invariant-loop-number : goal.invariant-loop-number

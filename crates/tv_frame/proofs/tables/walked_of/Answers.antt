@@ -1,4 +1,4 @@
-use Rattle.tv_frame.proofs.OfWalked.{few-rows}
+use Rattle.tv_frame.proofs.Walked.{few-rows}
 use Rattle.tv_frame.proofs.tables.walked_of.Goals as goal
 
 pub walked_wires-requires : goal.walked_wires-requires

@@ -1,4 +1,4 @@
-use Rattle.tv_framing.proofs.OfLaws.{ended-is_told, ending-is_told, whole-is_told}
+use Rattle.tv_framing.proofs.LawLemmas.{ended-is_told, ending-is_told, whole-is_told}
 use Rattle.tv_framing.proofs.laws.endings.Goals as goal
 
 pub returns : goal.returns

@@ -1,4 +1,4 @@
-use Rattle.tv_framing.proofs.OfLaws.{frames-are_possible, frames-go_on, results-are_legal, taking-makes_none_known}
+use Rattle.tv_framing.proofs.LawLemmas.{frames-are_possible, frames-go_on, results-are_legal, taking-makes_none_known}
 use Rattle.tv_framing.proofs.laws.frames.Goals as goal
 
 pub returns : goal.returns

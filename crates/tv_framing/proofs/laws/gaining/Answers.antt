@@ -1,4 +1,4 @@
-use Rattle.tv_framing.proofs.OfLaws.{known-is_before_and_gained, ports-gain_on_way}
+use Rattle.tv_framing.proofs.LawLemmas.{known-is_before_and_gained, ports-gain_on_way}
 use Rattle.tv_framing.proofs.laws.gaining.Goals as goal
 
 pub returns : goal.returns

@@ -1,4 +1,4 @@
-use Rattle.tv_framing.proofs.OfLaws.{matched-is_known}
+use Rattle.tv_framing.proofs.LawLemmas.{matched-is_known}
 use Rattle.tv_framing.proofs.laws.matching.Goals as goal
 
 pub returns : goal.returns

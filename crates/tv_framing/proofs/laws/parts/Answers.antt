@@ -1,4 +1,4 @@
-use Rattle.tv_framing.proofs.OfLaws.{parts-are_below}
+use Rattle.tv_framing.proofs.LawLemmas.{parts-are_below}
 use Rattle.tv_framing.proofs.laws.parts.Goals as goal
 
 pub returns : goal.returns

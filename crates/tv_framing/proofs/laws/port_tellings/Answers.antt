@@ -1,4 +1,4 @@
-use Rattle.tv_framing.proofs.OfLaws.{known_values-are_told_whole, ports-are_told, unknown_values-are_not_told}
+use Rattle.tv_framing.proofs.LawLemmas.{known_values-are_told_whole, ports-are_told, unknown_values-are_not_told}
 use Rattle.tv_framing.proofs.laws.port_tellings.Goals as goal
 
 pub returns : goal.returns

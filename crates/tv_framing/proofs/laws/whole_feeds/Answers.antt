@@ -1,4 +1,4 @@
-use Rattle.tv_framing.proofs.OfLaws.{feeds-are_known_whole, wrapping-is_known}
+use Rattle.tv_framing.proofs.LawLemmas.{feeds-are_known_whole, wrapping-is_known}
 use Rattle.tv_framing.proofs.laws.whole_feeds.Goals as goal
 
 pub returns : goal.returns

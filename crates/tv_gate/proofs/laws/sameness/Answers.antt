@@ -1,5 +1,5 @@
 use Rattle.tv_gate.specs.CallLaws.{equal-same, same-equal}
-use Rattle.tv_gate.proofs.OfGiven.{given-decided, outcomes-decided}
+use Rattle.tv_gate.proofs.Given.{given-decided, outcomes-decided}
 use Rattle.tv_gate.proofs.laws.sameness.Goals as goal
 
 pub returns : goal.returns

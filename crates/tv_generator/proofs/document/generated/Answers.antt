@@ -1,6 +1,6 @@
 use Rattle.std.proofs.Common.{ap, arith, ◌∙◌}
 use Rattle.tv_flow.specs.Formed.{is_formed}
-use Rattle.tv_generator.proofs.OfForm.{are-formed, same-document}
+use Rattle.tv_generator.proofs.Form.{are-formed, same-document}
 use Rattle.tv_generator.proofs.document.generated.Goals as goal
 
 pub invariant_of-result : goal.invariant_of-result

@@ -1,7 +1,7 @@
 use Rattle.std.proofs.Common.{[], ap, ◌++◌, ◌∙◌, ◌∷◌}
 use Rattle.tv_value.specs.Values.{text_value}
 use Rattle.tv_generator.specs.Parts.{text_of}
-use Rattle.tv_generator.proofs.OfTexts.{one-more}
+use Rattle.tv_generator.proofs.TextLemmas.{one-more}
 use Rattle.tv_generator.proofs.texts.first_texts.Goals as goal
 
 pub loop-index-preserved : goal.loop-index-preserved

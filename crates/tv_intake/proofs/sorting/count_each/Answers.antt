@@ -1,7 +1,7 @@
 use Rattle.std.proofs.Common.{arith, ◌∙◌}
 use Rattle.tv_match.specs.Ahead.{in_order_ahead}
 use Rattle.tv_intake.specs.Sorting.{faulty_ahead}
-use Rattle.tv_intake.proofs.OfSorting.{faulty-next, few-faulty, few-good, good-next}
+use Rattle.tv_intake.proofs.SortingLemmas.{faulty-next, few-faulty, few-good, good-next}
 use Rattle.tv_intake.proofs.sorting.count_each.Goals as goal
 
 pub loop-at-preserved : goal.loop-at-preserved

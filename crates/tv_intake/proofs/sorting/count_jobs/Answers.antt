@@ -1,6 +1,6 @@
 use Rattle.std.proofs.Common.{◌∙◌, arith}
 use Rattle.tv_match.specs.Ahead.{in_order_ahead}
-use Rattle.tv_intake.proofs.OfSorting.{count-next, few}
+use Rattle.tv_intake.proofs.SortingLemmas.{count-next, few}
 use Rattle.tv_intake.proofs.sorting.count_jobs.Goals as goal
 
 pub overflow_add-count : goal.overflow_add-count

@@ -1,7 +1,7 @@
 use Rattle.std.proofs.Common.{◌++◌, ◌+◌, drop, ap, ◌∙◌, arith}
 use Rattle.tv_match.specs.Ahead.{in_order_ahead}
 use Rattle.tv_intake.specs.Sorting.{found_jobs, found_others}
-use Rattle.tv_intake.proofs.OfSorting.{jobs-next, others-next}
+use Rattle.tv_intake.proofs.SortingLemmas.{jobs-next, others-next}
 use Rattle.tv_intake.proofs.sorting.sort_from.Goals as goal
 
 pub loop-at-preserved : goal.loop-at-preserved

@@ -4,7 +4,7 @@ use Rattle.serde_json.specs.View.{items_of}
 use Rattle.tv_value.specs.Nested.{trees_of}
 use Rattle.tv_value.specs.Views.{view}
 use Rattle.tv_value.specs.Printed.{json, all_json}
-use Rattle.tv_value.proofs.OfItems.{items_view-each}
+use Rattle.tv_value.proofs.ItemLemmas.{items_view-each}
 use Rattle.tv_json.proofs.Printing.{all_json-each}
 use Rattle.tv_json.proofs.values.+printing.Goals as goal
 

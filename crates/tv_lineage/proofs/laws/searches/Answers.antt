@@ -1,4 +1,4 @@
-use Rattle.tv_lineage.proofs.OfLaws.{search-begins, search-finds, search-goes_on}
+use Rattle.tv_lineage.proofs.LawLemmas.{search-begins, search-finds, search-goes_on}
 use Rattle.tv_lineage.proofs.laws.searches.Goals as goal
 
 pub returns : goal.returns

@@ -1,4 +1,4 @@
-use Rattle.tv_lineage.proofs.OfLaws.{table-grows, table-tells, table-whole}
+use Rattle.tv_lineage.proofs.LawLemmas.{table-grows, table-tells, table-whole}
 use Rattle.tv_lineage.proofs.laws.tables.Goals as goal
 
 pub returns : goal.returns

@@ -8,7 +8,7 @@ use Rattle.std.specs.String.{string_bytes}
 use Rattle.tv_value.specs.Values.{text_value}
 use Rattle.tv_value.specs.Views.{view}
 use Rattle.tv_local.specs.Numbers.{count_up}
-use Rattle.tv_local.proofs.OfLists.{count_up-push}
+use Rattle.tv_local.proofs.Lists.{count_up-push}
 use Rattle.tv_local.proofs.arithmetic.numbers.Goals as goal
 
 pub loop-step-preserved : goal.loop-step-preserved

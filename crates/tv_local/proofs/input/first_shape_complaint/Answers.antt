@@ -3,7 +3,7 @@ use Rattle.std.proofs.lemmas.List.{get_or_default}
 use Rattle.tv_value.specs.Views.{view}
 use Rattle.tv_local.specs.declared.row.Want.TheVariants.{Any}
 use Rattle.tv_local.specs.Reading.{shape_complaint, or_else}
-use Rattle.tv_local.proofs.OfComplaints.{complaint_from, complaint-step, found-first}
+use Rattle.tv_local.proofs.Complaints.{complaint_from, complaint-step, found-first}
 use Rattle.tv_local.proofs.input.first_shape_complaint.Goals as goal
 
 pub returns-in-Some : goal.returns-in-Some

@@ -1,6 +1,6 @@
 use Rattle.std.proofs.Common.{◌≡◌}
 use Rattle.tv_local.specs.Reading.{shape_complaint}
-use Rattle.tv_local.proofs.OfComplaints.{complaint_from}
+use Rattle.tv_local.proofs.Complaints.{complaint_from}
 use Rattle.tv_local.proofs.input.first_shape_complaint.Given as goal
 
 abbrev pub invariant-loop-index : goal.invariant-loop-index

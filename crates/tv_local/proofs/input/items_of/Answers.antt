@@ -1,7 +1,7 @@
 use Rattle.std.proofs.Common.{ap, sym, ◌∙◌, map}
 use Rattle.tv_value.specs.Nested.{items}
 use Rattle.tv_value.specs.Views.{view}
-use Rattle.tv_value.proofs.OfItems.{items-trees_of}
+use Rattle.tv_value.proofs.ItemLemmas.{items-trees_of}
 use Rattle.tv_local.proofs.input.items_of.Goals as goal
 
 pub returns : goal.returns

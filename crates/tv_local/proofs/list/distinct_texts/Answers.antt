@@ -5,7 +5,7 @@ use Rattle.tv_value.specs.Values.{text_value}
 use Rattle.tv_value.specs.Views.{view}
 use Rattle.tv_local.specs.Lists.{text_among}
 use Rattle.tv_local.specs.Reading.{text_of}
-use Rattle.tv_local.proofs.OfLists.{ref_cmp, put-among, text_at, texts-long, distinct-new, distinct-old}
+use Rattle.tv_local.proofs.Lists.{ref_cmp, put-among, text_at, texts-long, distinct-new, distinct-old}
 use Rattle.tv_local.proofs.list.distinct_texts.Goals as goal
 use Rattle.tv_local.proofs.list.distinct_texts.Goals.{then-branch+in_ok-push_text, else-branch}
 

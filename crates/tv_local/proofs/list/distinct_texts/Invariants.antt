@@ -6,7 +6,7 @@ use Rattle.tv_value.specs.Values.{text_value}
 use Rattle.tv_value.specs.Views.{view}
 use Rattle.tv_local.specs.Lists.{text_among, distinct}
 use Rattle.tv_local.specs.Reading.{text_of}
-use Rattle.tv_local.proofs.OfLists.{still}
+use Rattle.tv_local.proofs.Lists.{still}
 use Rattle.tv_local.proofs.list.distinct_texts.Given as goal
 
 abbrev pub invariant-loop-value : goal.invariant-loop-value

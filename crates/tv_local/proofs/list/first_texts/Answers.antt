@@ -2,7 +2,7 @@ use Rattle.std.proofs.Common.{◌≡◌, List, map, IfOk, ap, subst, ◌∙◌}
 use Rattle.tv_value.specs.Values.{Text, text_value}
 use Rattle.tv_value.specs.Views.{view}
 use Rattle.tv_local.specs.Reading.{text_of}
-use Rattle.tv_local.proofs.OfLists.{first-texts}
+use Rattle.tv_local.proofs.Lists.{first-texts}
 use Rattle.tv_local.proofs.list.first_texts.Goals as goal
 
 pub returns : goal.returns

@@ -4,7 +4,7 @@ use Rattle.tv_value.specs.Values.{text_value}
 use Rattle.tv_value.specs.Views.{view}
 use Rattle.tv_local.specs.Lists.{flat}
 use Rattle.tv_local.specs.Reading.{text_of, texts_of}
-use Rattle.tv_local.proofs.OfLists.{flat-push, lists_more}
+use Rattle.tv_local.proofs.Lists.{flat-push, lists_more}
 use Rattle.tv_local.proofs.list.flat.Goals as goal
 
 pub loop-list-preserved : goal.loop-list-preserved

@@ -6,7 +6,7 @@ use Rattle.tv_value.specs.Views.{view}
 use Rattle.tv_gate.specs.Outcomes.{good}
 use Rattle.tv_gate.specs.Views.{outcome_view}
 use Rattle.tv_local.specs.Reading.{text_of, texts_of}
-use Rattle.tv_local.proofs.OfLists.{map-reverse}
+use Rattle.tv_local.proofs.Lists.{map-reverse}
 use Rattle.tv_local.proofs.list.reverse.Goals as goal
 
 pub returns : goal.returns

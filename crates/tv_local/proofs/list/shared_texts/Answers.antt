@@ -4,7 +4,7 @@ use Rattle.tv_value.specs.Values.{text_value}
 use Rattle.tv_value.specs.Views.{view}
 use Rattle.tv_local.specs.Lists.{text_among}
 use Rattle.tv_local.specs.Reading.{text_of}
-use Rattle.tv_local.proofs.OfLists.{put-among, text_at, texts-long, texts-all, shared-new, shared-old}
+use Rattle.tv_local.proofs.Lists.{put-among, text_at, texts-long, texts-all, shared-new, shared-old}
 use Rattle.tv_local.proofs.list.shared_texts.Goals as goal
 use Rattle.tv_local.proofs.list.shared_texts.Goals.{then-contains+in_ok-push_text, else-contains}
 

@@ -1,6 +1,6 @@
 use Rattle.std.proofs.Common.{sym, ◌∙◌}
 use Rattle.std.proofs.lemmas.Bool.{eqb-true, eqb-false}
-use Rattle.tv_local.proofs.OfNumbers.{read-parsed, read-plus}
+use Rattle.tv_local.proofs.Numbers.{read-parsed, read-plus}
 use Rattle.tv_local.proofs.number.read_number.Goals as goal
 
 pub returns-then-starts_with_plus : goal.returns-then-starts_with_plus

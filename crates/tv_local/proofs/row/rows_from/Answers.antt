@@ -2,7 +2,7 @@ use Rattle.std.proofs.Common.{◌≡◌, ◌+◌, ◌-◌, ◌∙◌, ap, arith,
 use Rattle.std.proofs.lemmas.Bool.{ltb-false, ltb-true}
 use Rattle.std.proofs.lemmas.List.{length-map}
 use Rattle.tv_local.specs.Beginnings.{from_byte}
-use Rattle.tv_local.proofs.OfBeginnings.{row, rows-between, span-at, none-below, none-past}
+use Rattle.tv_local.proofs.Beginnings.{row, rows-between, span-at, none-below, none-past}
 use Rattle.tv_local.proofs.row.rows_from.Goals as goal
 
 pub between-requires : goal.between-requires

@@ -3,8 +3,8 @@ use Rattle.std.specs.String.{string_bytes}
 use Rattle.tv_value.specs.Views.{view}
 use Rattle.tv_local.specs.Reading.{text_of}
 use Rattle.tv_local.specs.Texts.{joined}
-use Rattle.tv_local.proofs.OfTexts.{joined-push}
-use Rattle.tv_local.proofs.OfLists.{texts_more}
+use Rattle.tv_local.proofs.Texts.{joined-push}
+use Rattle.tv_local.proofs.Lists.{texts_more}
 use Rattle.tv_local.proofs.text.joined.Goals as goal
 
 pub loop-value-preserved : goal.loop-value-preserved

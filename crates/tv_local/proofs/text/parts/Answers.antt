@@ -4,7 +4,7 @@ use Rattle.std.proofs.lemmas.Str.{IsUtf8-drop}
 use Rattle.tv_value.specs.Values.{text_value}
 use Rattle.tv_value.specs.Views.{view}
 use Rattle.tv_local.specs.Texts.{parts}
-use Rattle.tv_local.proofs.OfTexts.{parts-found, parts-none}
+use Rattle.tv_local.proofs.Texts.{parts-found, parts-none}
 use Rattle.tv_local.proofs.text.parts.Goals as goal
 
 pub loop-part-preserved : goal.loop-part-preserved

@@ -6,7 +6,7 @@ use Rattle.tv_value.specs.Values.{text_value}
 use Rattle.tv_value.specs.Views.{view}
 use Rattle.tv_local.specs.Table.{list_limit, split_by}
 use Rattle.tv_local.specs.Texts.{parts}
-use Rattle.tv_local.proofs.OfSplits.{split-long}
+use Rattle.tv_local.proofs.Splits.{split-long}
 use Rattle.tv_local.proofs.text.split.Goals as goal
 
 pub returns-then-len : goal.returns-then-len

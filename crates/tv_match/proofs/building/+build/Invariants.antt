@@ -1,5 +1,5 @@
 use Rattle.tv_value.specs.Views.{strategy_view}
-use Rattle.tv_value.proofs.OfTrees.{size, sizes}
+use Rattle.tv_value.proofs.TreeLemmas.{size, sizes}
 use Rattle.tv_strategy.specs.Views.{children_view}
 use Rattle.tv_match.proofs.building.+build.Given as goal
 

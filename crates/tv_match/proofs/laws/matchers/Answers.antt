@@ -1,4 +1,4 @@
-use Rattle.tv_match.proofs.OfLaws.{sound-is_matching}
+use Rattle.tv_match.proofs.LawLemmas.{sound-is_matching}
 use Rattle.tv_match.proofs.laws.matchers.Goals as goal
 
 pub returns : goal.returns

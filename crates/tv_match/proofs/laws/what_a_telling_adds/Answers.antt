@@ -1,4 +1,4 @@
-use Rattle.tv_match.proofs.OfLaws.{added-is_behind}
+use Rattle.tv_match.proofs.LawLemmas.{added-is_behind}
 use Rattle.tv_match.proofs.laws.what_a_telling_adds.Goals as goal
 
 pub returns : goal.returns

@@ -3,7 +3,7 @@ use Rattle.std.proofs.lemmas.Bool.{ltb-false}
 use Rattle.tv_value.specs.Views.{strategy_view}
 use Rattle.tv_strategy.specs.Conditions.{number_of}
 use Rattle.tv_strategy.specs.Views.{answer_view}
-use Rattle.tv_strategy.proofs.OfLaws.{measured-agrees}
+use Rattle.tv_strategy.proofs.LawLemmas.{measured-agrees}
 use Rattle.tv_match.proofs.places.is_deep.Goals as goal
 
 pub returns-in-Ok : goal.returns-in-Ok

@@ -1,4 +1,4 @@
-use Rattle.tv_matching.proofs.OfMatchers.{out-is_known, start-is_matching, telling-is_matching, gives-only_rest}
+use Rattle.tv_matching.proofs.Matchers.{out-is_known, start-is_matching, telling-is_matching, gives-only_rest}
 use Rattle.tv_matching.proofs.Bared.{kept-is_enough, kept-gains, marked-is_matched, faults-ride}
 use Rattle.tv_matching.proofs.laws.matchers.Goals as goal
 

@@ -1,4 +1,4 @@
-use Rattle.tv_matching.proofs.OfLaws.{matches-known, matches-only_known, matches-all_known, nodes-stand, places-have_nodes}
+use Rattle.tv_matching.proofs.LawLemmas.{matches-known, matches-only_known, matches-all_known, nodes-stand, places-have_nodes}
 use Rattle.tv_matching.proofs.laws.matches_iteration.Goals as goal
 
 pub returns : goal.returns

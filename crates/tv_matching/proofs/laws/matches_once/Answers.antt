@@ -1,4 +1,4 @@
-use Rattle.tv_matching.proofs.OfLaws.{matches-once, new-is_once}
+use Rattle.tv_matching.proofs.LawLemmas.{matches-once, new-is_once}
 use Rattle.tv_matching.proofs.laws.matches_once.Goals as goal
 
 pub returns : goal.returns

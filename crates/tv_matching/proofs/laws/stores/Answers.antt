@@ -1,4 +1,4 @@
-use Rattle.tv_matching.proofs.OfLaws.{store-is_matched, store-starts, store-grows, store-works, cross-of_one_child, crosses-nest}
+use Rattle.tv_matching.proofs.LawLemmas.{store-is_matched, store-starts, store-grows, store-works, cross-of_one_child, crosses-nest}
 use Rattle.tv_matching.proofs.laws.stores.Goals as goal
 
 pub returns : goal.returns

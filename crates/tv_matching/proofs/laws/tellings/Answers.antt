@@ -1,4 +1,4 @@
-use Rattle.tv_matching.proofs.OfLaws.{tellings-add, tellings-count, tellings-in_any_order}
+use Rattle.tv_matching.proofs.LawLemmas.{tellings-add, tellings-count, tellings-in_any_order}
 use Rattle.tv_matching.proofs.laws.tellings.Goals as goal
 
 pub returns : goal.returns

@@ -1,5 +1,5 @@
 use Rattle.std.proofs.Common.{refl}
-use Rattle.tv_model.proofs.OfTotals.{attempts-sum, passing-count}
+use Rattle.tv_model.proofs.TotalLemmas.{attempts-sum, passing-count}
 use Rattle.tv_model.specs.Turns.{is_bounced, is_failed}
 use Rattle.tv_model.proofs.laws.totals_are_sums.Goals as goal
 

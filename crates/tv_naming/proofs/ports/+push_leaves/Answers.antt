@@ -1,6 +1,6 @@
 use Rattle.std.proofs.Common.{◌<◌, subst}
 use Rattle.tv_value.specs.Views.{strategy_view}
-use Rattle.tv_value.proofs.OfTrees.{size, size-item}
+use Rattle.tv_value.proofs.TreeLemmas.{size, size-item}
 use Rattle.tv_naming.proofs.Once.{leaves-more, leaves-end}
 use Rattle.tv_naming.proofs.ports.+push_leaves.Goals as goal
 

@@ -1,6 +1,6 @@
 use Rattle.std.proofs.Common.{◌≡◌, ◌++◌, map}
 use Rattle.tv_value.specs.Views.{strategy_view, strategies_of}
-use Rattle.tv_value.proofs.OfTrees.{size, sizes}
+use Rattle.tv_value.proofs.TreeLemmas.{size, sizes}
 use Rattle.tv_naming.proofs.Once.{leaves_from}
 use Rattle.tv_naming.proofs.ports.+push_leaves.Given as goal
 

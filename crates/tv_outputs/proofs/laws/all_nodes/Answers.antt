@@ -1,4 +1,4 @@
-use Rattle.tv_outputs.proofs.OfValues.{all-nodes, no-more}
+use Rattle.tv_outputs.proofs.ValueLemmas.{all-nodes, no-more}
 use Rattle.tv_outputs.proofs.laws.all_nodes.Goals as goal
 
 pub returns : goal.returns

@@ -8,10 +8,10 @@ use Rattle.tv_stream.proofs.Ways.{nil-of}
 use Rattle.tv_cell.specs.declared.piece.Piece.{Piece}
 use Rattle.tv_cell.specs.PieceValues.{piece_values}
 use Rattle.tv_cell.specs.Soundness.{AreSound}
-use Rattle.tv_cell.proofs.OfPieces.{list-value}
+use Rattle.tv_cell.proofs.PieceLemmas.{list-value}
 use Rattle.tv_outputs.specs.Known.{value_tree}
 use Rattle.tv_outputs.specs.PartValues.{list_values}
-use Rattle.tv_outputs.proofs.OfPieces.{known-none, known-part, list-is-sound, no-values}
+use Rattle.tv_outputs.proofs.PieceLemmas.{known-none, known-part, list-is-sound, no-values}
 use Rattle.tv_outputs.proofs.Seeing.{sees-part}
 use Rattle.tv_outputs.proofs.pieces.+list_at.Goals as goal
 

@@ -10,7 +10,7 @@ use Rattle.tv_cell.specs.declared.piece.Piece.{Piece}
 use Rattle.tv_cell.specs.PieceValues.{piece_value}
 use Rattle.tv_outputs.specs.Known.{item_value, value_tree}
 use Rattle.tv_outputs.proofs.Building.{closes-has}
-use Rattle.tv_outputs.proofs.OfPieces.{around-at, kind-closes, none-arrives, whole-closes}
+use Rattle.tv_outputs.proofs.PieceLemmas.{around-at, kind-closes, none-arrives, whole-closes}
 use Rattle.tv_outputs.proofs.Seeing.{sees-part}
 use Rattle.tv_outputs.proofs.pieces.+piece_around.Goals as goal
 

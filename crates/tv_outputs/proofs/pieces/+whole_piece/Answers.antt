@@ -8,13 +8,13 @@ use Rattle.tv_parts.specs.Below.{value_in}
 use Rattle.tv_cell.specs.declared.piece.Piece.{Piece}
 use Rattle.tv_cell.specs.PieceValues.{piece_value, piece_values}
 use Rattle.tv_cell.specs.Soundness.{IsSound, AreSound}
-use Rattle.tv_cell.proofs.OfPieces.{list-value}
+use Rattle.tv_cell.proofs.PieceLemmas.{list-value}
 use Rattle.tv_value.specs.Nested.{trees_of}
 use Rattle.tv_value.specs.Values.{list_value}
 use Rattle.tv_outputs.specs.Known.{item_value, value_tree}
 use Rattle.tv_outputs.specs.PartValues.{list_values}
 use Rattle.tv_outputs.proofs.Building.{range-none, closes-whole, closes-value}
-use Rattle.tv_outputs.proofs.OfPieces.{more-sound, pushed, pushed-all, pieces-sound, item-is, item-sound, kind-closes, whole-kinds}
+use Rattle.tv_outputs.proofs.PieceLemmas.{more-sound, pushed, pushed-all, pieces-sound, item-is, item-sound, kind-closes, whole-kinds}
 use Rattle.tv_outputs.proofs.Seeing.{sees-whole, whole-part}
 use Rattle.tv_outputs.proofs.pieces.+whole_piece.Goals as goal
 use Rattle.tv_stream.proofs.Mapped.{map-part_at}

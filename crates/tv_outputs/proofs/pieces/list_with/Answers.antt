@@ -2,13 +2,13 @@ use Rattle.std.proofs.Common.{◌≡◌, ℕ, ◌≤◌, ◌<◌, ◌+◌, sym, 
 use Rattle.std.specs.Prelude.{slice_range}
 use Rattle.tv_cell.specs.PieceValues.{piece_value}
 use Rattle.tv_cell.specs.Soundness.{AreSound}
-use Rattle.tv_cell.proofs.OfPieces.{list-value}
+use Rattle.tv_cell.proofs.PieceLemmas.{list-value}
 use Rattle.tv_value.specs.Nested.{trees_of}
 use Rattle.tv_value.specs.Values.{list_value}
 use Rattle.tv_outputs.specs.Known.{value_tree}
 use Rattle.tv_outputs.specs.PartValues.{list_values}
 use Rattle.tv_outputs.proofs.Building.{closes-others, closes-with}
-use Rattle.tv_outputs.proofs.OfPieces.{kind-closes, more-sound, pushed-with, pieces-with-sound}
+use Rattle.tv_outputs.proofs.PieceLemmas.{kind-closes, more-sound, pushed-with, pieces-with-sound}
 use Rattle.tv_outputs.proofs.pieces.list_with.Goals as goal
 
 apart-below : (i j : ℕ) → j < i → j ≡ i → ⊥

@@ -4,7 +4,7 @@ use Rattle.tv_parts.specs.Partials.{part_at}
 use Rattle.tv_outputs.specs.Kept.{IsNoted}
 use Rattle.tv_outputs.proofs.Comparing.{inner-told, none-told, part-told}
 use Rattle.tv_outputs.proofs.Mapping.{each-part_at}
-use Rattle.tv_outputs.proofs.OfPieces.{item-sound}
+use Rattle.tv_outputs.proofs.PieceLemmas.{item-sound}
 use Rattle.tv_outputs.proofs.same.+found_is.Goals as goal
 
 pub part_stands_for-requires : goal.part_stands_for-requires

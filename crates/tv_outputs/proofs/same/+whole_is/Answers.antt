@@ -9,7 +9,7 @@ use Rattle.tv_outputs.specs.FoundIn.{found_in}
 use Rattle.tv_outputs.specs.Kept.{IsNoted}
 use Rattle.tv_outputs.proofs.Comparing.{fault-view, found-none, item-smaller, item-told, leaf-told, list-smaller, list-told, list_of-view, more-found, one-other, open-told, size, sizes, text-view, value-at}
 use Rattle.tv_outputs.proofs.Mapping.{each-part_at}
-use Rattle.tv_outputs.proofs.OfPieces.{item-sound, kind-closes}
+use Rattle.tv_outputs.proofs.PieceLemmas.{item-sound, kind-closes}
 use Rattle.tv_outputs.proofs.same.+whole_is.Goals as goal
 
 -- ---- a node

@@ -6,7 +6,7 @@ use Rattle.tv_value.specs.declared.value.Value.{Value}
 use Rattle.tv_value.specs.Views.{view}
 use Rattle.tv_outputs.specs.Known.{value_tree}
 use Rattle.tv_outputs.specs.FoundIn.{found_in}
-use Rattle.tv_outputs.proofs.OfPieces.{here-found, here-whole, inside-found, item-sound, nothing-found, part-found}
+use Rattle.tv_outputs.proofs.PieceLemmas.{here-found, here-whole, inside-found, item-sound, nothing-found, part-found}
 use Rattle.tv_outputs.proofs.Seeing.{sees-part}
 use Rattle.tv_outputs.proofs.values.+found_value.Goals as goal
 

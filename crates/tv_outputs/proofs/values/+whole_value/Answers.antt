@@ -9,11 +9,11 @@ use Rattle.tv_value.specs.Views.{view}
 use Rattle.tv_value.specs.declared.value.Value.{Value}
 use Rattle.tv_parts.specs.Partials.{part_at, whole}
 use Rattle.tv_parts.specs.Below.{value_in}
-use Rattle.tv_cell.proofs.OfPieces.{list-view}
+use Rattle.tv_cell.proofs.PieceLemmas.{list-view}
 use Rattle.tv_outputs.specs.Known.{item_value, value_tree}
 use Rattle.tv_outputs.specs.PartValues.{list_values}
 use Rattle.tv_outputs.proofs.Building.{range-none, closes-whole, closes-value}
-use Rattle.tv_outputs.proofs.OfPieces.{item-is, item-sound, kind-closes, values-pushed, whole-kinds}
+use Rattle.tv_outputs.proofs.PieceLemmas.{item-is, item-sound, kind-closes, values-pushed, whole-kinds}
 use Rattle.tv_outputs.proofs.Seeing.{sees-whole, whole-part}
 use Rattle.tv_outputs.proofs.values.+whole_value.Goals as goal
 use Rattle.tv_stream.proofs.Mapped.{map-part_at}

@@ -6,7 +6,7 @@ use Rattle.tv_flow.specs.Views.{each, flow_view}
 use Rattle.tv_flow.specs.declared.document.Flow.{Flow}
 use Rattle.tv_check.specs.FlowPlanViews.{flow_plan_view}
 use Rattle.tv_check.specs.RunViews.{run_view}
-use Rattle.tv_report.proofs.OfPlans.{grown-flow}
+use Rattle.tv_report.proofs.Plans.{grown-flow}
 use Rattle.tv_report.proofs.depths.depth_lines.Goals as goal
 
 abbrev seen : Name × Flow → Name × spec.Flow

@@ -7,7 +7,7 @@ use Rattle.tv_flow.specs.Flows as spec
 use Rattle.tv_flow.specs.Views.{each, step_input_view}
 use Rattle.tv_flow.specs.declared.document.StepInput.{StepInput}
 use Rattle.tv_report.specs.PlanLines.{planned_input}
-use Rattle.tv_report.proofs.OfPlans.{grown-pair, grown-pairs}
+use Rattle.tv_report.proofs.Plans.{grown-pair, grown-pairs}
 use Rattle.tv_report.proofs.depths.push_inputs.Goals as goal
 
 abbrev seen : Name × StepInput → Name × spec.StepInput

@@ -8,7 +8,7 @@ use Rattle.tv_flow.specs.Views.{each, step_view}
 use Rattle.tv_flow.specs.declared.document.Step.{Step}
 use Rattle.tv_check.specs.PlanViews.{step_plan_view}
 use Rattle.tv_report.specs.PlanLines.{planned_step}
-use Rattle.tv_report.proofs.OfPlans.{grown-pair, grown-pairs}
+use Rattle.tv_report.proofs.Plans.{grown-pair, grown-pairs}
 use Rattle.tv_report.proofs.depths.push_steps.Goals as goal
 
 abbrev seen : Name × Step → Name × spec.Step

@@ -1,11 +1,11 @@
 use Rattle.std.proofs.Common.{◌++◌, ◌∷◌, ap, sym, ◌∙◌, map}
 use Rattle.json.specs.Token as Spec
 use Rattle.tv_report.proofs.Growing.{adds-both}
-use Rattle.tv_report.proofs.OfTokens.{values-tokens}
+use Rattle.tv_report.proofs.Tokens.{values-tokens}
 use Rattle.tv_value.specs.Nested.{trees_of}
 use Rattle.tv_value.specs.Views.{view}
 use Rattle.tv_value.specs.Printed.{all_json}
-use Rattle.tv_value.proofs.OfItems.{items_view-each}
+use Rattle.tv_value.proofs.ItemLemmas.{items_view-each}
 use Rattle.tv_report.specs.Tokens.{tokens_of_items}
 use Rattle.tv_report.proofs.results.+putting.Goals as goal
 

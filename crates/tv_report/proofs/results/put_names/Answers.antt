@@ -1,7 +1,7 @@
 use Rattle.std.proofs.Common.{◌++◌, ◌∷◌, ap, sym, ◌∙◌, map}
 use Rattle.json.specs.Token as Spec
 use Rattle.tv_report.proofs.Growing.{adds-both}
-use Rattle.tv_report.proofs.OfTokens.{names-tokens}
+use Rattle.tv_report.proofs.Tokens.{names-tokens}
 use Rattle.tv_value.specs.Printed.{job_text, strings}
 use Rattle.tv_report.specs.Tokens.{tokens_of_items}
 use Rattle.tv_report.proofs.results.put_names.Goals as goal

@@ -1,7 +1,7 @@
 use Rattle.std.proofs.Common.{◌++◌, ◌∷◌, ap, sym, ◌∙◌, map}
 use Rattle.json.specs.Token as Spec
 use Rattle.tv_report.proofs.Growing.{adds-both}
-use Rattle.tv_report.proofs.OfTokens.{members-tokens}
+use Rattle.tv_report.proofs.Tokens.{members-tokens}
 use Rattle.tv_flow.specs.Views.{each}
 use Rattle.tv_value.specs.Views.{view}
 use Rattle.tv_value.specs.Printed.{json, members}

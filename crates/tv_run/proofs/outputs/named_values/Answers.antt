@@ -1,7 +1,7 @@
 use Rattle.std.proofs.Common.{ap, arith, sym, ◌∙◌}
 use Rattle.tv_value.specs.Views.{view}
 use Rattle.tv_flow.specs.Views.{each}
-use Rattle.tv_run.proofs.OfNamedValues.{named-all, named-next}
+use Rattle.tv_run.proofs.NamedValues.{named-all, named-next}
 use Rattle.tv_run.proofs.outputs.named_values.Goals as goal
 
 pub loop-index-preserved : goal.loop-index-preserved

@@ -1,5 +1,5 @@
 use Rattle.std.proofs.Common.{arith, sym, ◌∙◌}
-use Rattle.tv_run.proofs.OfLooking.{no-number, number-is, number-low}
+use Rattle.tv_run.proofs.Looking.{no-number, number-is, number-low}
 use Rattle.tv_run.proofs.plans.flow_number.Goals as goal
 
 pub overflow_cast-result : goal.overflow_cast-result

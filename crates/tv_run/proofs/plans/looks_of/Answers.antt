@@ -5,8 +5,8 @@ use Rattle.tv_flow.specs.Flows.{Flow}
 use Rattle.tv_check.specs.RunViews.{run_view}
 use Rattle.tv_run.specs.Looks.{IsLook}
 use Rattle.tv_run.specs.declared.plans.FlowLook.{FlowLook}
-use Rattle.tv_run.proofs.OfFlowPlans.{plan-flow}
-use Rattle.tv_run.proofs.OfLooking.{AreFlowsSoFar, flows-are, one-flow}
+use Rattle.tv_run.proofs.FlowPlans.{plan-flow}
+use Rattle.tv_run.proofs.Looking.{AreFlowsSoFar, flows-are, one-flow}
 use Rattle.tv_run.proofs.plans.looks_of.Goals as goal
 
 pub look_of-requires : goal.look_of-requires

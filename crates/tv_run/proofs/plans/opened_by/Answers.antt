@@ -3,7 +3,7 @@ use Rattle.std.proofs.Common.{ap, arith, subst, sym, ◌∙◌}
 use Rattle.tv_flow.specs.Views.{activity_view}
 use Rattle.tv_model.specs.Opening.{first_nested}
 use Rattle.tv_run.specs.Looks.{OpensNumber}
-use Rattle.tv_run.proofs.OfLooking.{first-so_far}
+use Rattle.tv_run.proofs.Looking.{first-so_far}
 use Rattle.tv_run.proofs.plans.opened_by.Goals as goal
 
 pub returns-in-Nested : goal.returns-in-Nested

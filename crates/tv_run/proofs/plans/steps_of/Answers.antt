@@ -4,7 +4,7 @@ use Rattle.tv_flow.specs.Views.{activity_view, each, flow_view, step_view}
 use Rattle.tv_model.specs.Opening.{first_nested}
 use Rattle.tv_run.specs.Looks.{OpensNumber}
 use Rattle.tv_run.specs.declared.plans.StepLook.{StepLook}
-use Rattle.tv_run.proofs.OfLooking.{AreStepsSoFar, all-steps, one-step}
+use Rattle.tv_run.proofs.Looking.{AreStepsSoFar, all-steps, one-step}
 use Rattle.tv_run.proofs.plans.steps_of.Goals as goal
 
 pub loop-step-preserved : goal.loop-step-preserved

@@ -1,6 +1,6 @@
 use Rattle.tv_flow.specs.Flows.{Document}
 use Rattle.tv_run.specs.Looks.{AreFlowsOf}
-use Rattle.tv_run.proofs.OfLooking.{AreStepsSoFar}
+use Rattle.tv_run.proofs.Looking.{AreStepsSoFar}
 use Rattle.tv_run.proofs.plans.steps_of.Given as goal
 
 abbrev pub invariant-loop-step : goal.invariant-loop-step

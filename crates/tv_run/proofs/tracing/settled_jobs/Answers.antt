@@ -1,8 +1,8 @@
 use Rattle.std.specs.Option.{option_map_or}
 use Rattle.std.proofs.Common.{ap, arith, false, sym, ◌<◌, ◌≡◌, ◌∙◌, length}
 use Rattle.tv_seats.specs.Seats.{stage_at}
-use Rattle.tv_forest.specs.stands.Seats.{is_over}
-use Rattle.tv_run.proofs.OfRecording.{all-gathered, gathered, not-gathered}
+use Rattle.tv_instances.specs.stands.Seats.{is_over}
+use Rattle.tv_run.proofs.Recording.{all-gathered, gathered, not-gathered}
 use Rattle.tv_run.proofs.tracing.settled_jobs.Goals as goal
 use Rattle.tv_run.proofs.tracing.settled_jobs.Goals.{else-is_settled, then-is_settled+in_ok-place+in_ok-push}
 

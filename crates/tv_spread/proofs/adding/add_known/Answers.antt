@@ -1,9 +1,9 @@
 use Rattle.std.proofs.Common.{◌≡◌, ◌+◌, ℕ, drop, ap, sym, subst, ◌∙◌}
 use Rattle.tv_value.specs.Nested.{Place}
 use Rattle.tv_intake.specs.Intaken.{known_jobs}
-use Rattle.tv_intake.proofs.OfSorting.{drop-next}
+use Rattle.tv_intake.proofs.SortingLemmas.{drop-next}
 use Rattle.tv_spread.specs.Spreads.{is_faulty_now, with_all_new, with_new}
-use Rattle.tv_spread.proofs.OfAdding.{Adding, added-is, adding-more, room-here, told-faulty}
+use Rattle.tv_spread.proofs.AddingLemmas.{Adding, added-is, adding-more, room-here, told-faulty}
 use Rattle.tv_spread.proofs.adding.add_known.Goals as goal
 
 pub loop-number-init : goal.loop-number-init

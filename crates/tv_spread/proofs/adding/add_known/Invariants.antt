@@ -1,7 +1,7 @@
 use Rattle.std.proofs.Common.{◌≡◌, drop, length}
 use Rattle.tv_intake.specs.Intaken.{known_jobs}
 use Rattle.tv_spread.specs.Spreads.{is_faulty_now, with_all_new}
-use Rattle.tv_spread.proofs.OfAdding.{Adding}
+use Rattle.tv_spread.proofs.AddingLemmas.{Adding}
 use Rattle.tv_spread.proofs.adding.add_known.Given as goal
 
 abbrev pub invariant-loop-number : goal.invariant-loop-number

@@ -1,9 +1,9 @@
 use Rattle.std.proofs.Common.{length, subst, sym}
-use Rattle.tv_wires.specs.declared.ports.Port.{Port}
-use Rattle.tv_endings.specs.Feeds.{IsWithin}
+use Rattle.tv_check.specs.declared.ports.Port.{Port}
+use Rattle.tv_telling.specs.endings.Feeds.{IsWithin}
 use Rattle.tv_spread.specs.Arounds.{IsFed}
 use Rattle.tv_spread.proofs.Lists.{each-at}
-use Rattle.tv_spread.proofs.OfTold.{fed-within}
+use Rattle.tv_spread.proofs.Told.{fed-within}
 use Rattle.tv_spread.proofs.around.push_wholes.Goals as goal
 
 pub has_whole-requires : goal.has_whole-requires

@@ -1,5 +1,5 @@
 use Rattle.std.proofs.Common.{◌≡◌, ◌++◌, take}
-use Rattle.tv_endings.specs.Ends.{is_whole}
+use Rattle.tv_telling.specs.endings.Ends.{is_whole}
 use Rattle.tv_spread.specs.Arounds.{delivers_fault}
 use Rattle.tv_spread.specs.Wholes.{wholes_with}
 use Rattle.tv_spread.proofs.around.push_wholes.Given as goal

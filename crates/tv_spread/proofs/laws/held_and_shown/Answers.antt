@@ -1,4 +1,4 @@
-use Rattle.tv_spread.proofs.OfLaws.{all-told, flags-told, ready-stays}
+use Rattle.tv_spread.proofs.LawLemmas.{all-told, flags-told, ready-stays}
 use Rattle.tv_spread.proofs.laws.held_and_shown.Goals as goal
 
 pub returns : goal.returns

@@ -1,4 +1,4 @@
-use Rattle.tv_spread.proofs.OfLaws.{wholes-leaves, wirings-wired}
+use Rattle.tv_spread.proofs.LawLemmas.{wholes-leaves, wirings-wired}
 use Rattle.tv_spread.proofs.laws.lookups.Goals as goal
 
 pub returns : goal.returns

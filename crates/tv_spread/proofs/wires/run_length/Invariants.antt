@@ -1,6 +1,6 @@
 use Rattle.std.proofs.Common.{◌≡◌, take}
 use Rattle.tv_lemmas.specs.Members.{Each}
-use Rattle.tv_wires.specs.declared.wires.Wire.{Wire}
+use Rattle.tv_check.specs.declared.wires.Wire.{Wire}
 use Rattle.tv_spread.proofs.wires.run_length.Given as goal
 
 abbrev pub invariant-loop-count : goal.invariant-loop-count

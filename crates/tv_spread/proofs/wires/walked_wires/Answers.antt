@@ -3,7 +3,7 @@ use Rattle.std.specs.Prelude.{Vec, filter}
 use Rattle.std.proofs.Common.{◌++◌, ◌∷◌, [], map, take, ap, sym, ◌∙◌}
 use Rattle.std.proofs.lemmas.List.{map-append, map_more}
 use Rattle.std.proofs.lemmas.Option.{get_or_from_slice_get, slice_get_within}
-use Rattle.tv_wires.specs.declared.wires.Wire.{Wire}
+use Rattle.tv_check.specs.declared.wires.Wire.{Wire}
 use Rattle.tv_telling.specs.Along.{is_walked}
 use Rattle.tv_spread.proofs.wires.walked_wires.Goals as goal
 

@@ -3,7 +3,7 @@ use Rattle.std.proofs.Common.{[], arith, ap, sym, ◌∙◌}
 use Rattle.std.proofs.lemmas.Bool.{eq-eqb, ne_eqb}
 use Rattle.std.proofs.lemmas.Option.{get_or_from_slice_get}
 use Rattle.tv_telling.specs.Along.{is_walked, wires_from}
-use Rattle.tv_spread.proofs.OfWires.{rows-many, walked-many, walked-row}
+use Rattle.tv_spread.proofs.WireLemmas.{rows-many, walked-many, walked-row}
 use Rattle.tv_spread.proofs.wires.wires_along.Goals as goal
 
 pub row-requires : goal.row-requires

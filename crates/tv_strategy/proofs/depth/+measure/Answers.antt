@@ -1,11 +1,11 @@
 use Rattle.std.proofs.Common.{◌<◌, ◌≡◌, ◌^◌, ◌+◌, Ok, Err, arith, subst, sym}
 use Rattle.tv_value.specs.Views.{strategy_view}
-use Rattle.tv_value.proofs.OfTrees.{size, sizes, size-item, strategies_of-drop}
+use Rattle.tv_value.proofs.TreeLemmas.{size, sizes, size-item, strategies_of-drop}
 use Rattle.tv_strategy.specs.Conditions.{number_of, sum_over}
 use Rattle.tv_strategy.specs.Measures.{all_leaf_names, measured, unless, first_inside, depths_of}
 use Rattle.tv_value.specs.Strategies.{dot}
 use Rattle.tv_strategy.specs.Views.{children_view}
-use Rattle.tv_strategy.proofs.OfMeasures.{sum-item, sum-parts, summed-fits, dot-differs, first_not}
+use Rattle.tv_strategy.proofs.Measures.{sum-item, sum-parts, summed-fits, dot-differs, first_not}
 use Rattle.tv_strategy.proofs.depth.+measure.Goals as goal
 
 pub sum_of-measure-requires : goal.sum_of-measure-requires

@@ -1,9 +1,9 @@
 use Rattle.std.proofs.Common.{drop}
 use Rattle.tv_value.specs.Views.{strategy_view}
-use Rattle.tv_value.proofs.OfTrees.{size, sizes}
+use Rattle.tv_value.proofs.TreeLemmas.{size, sizes}
 use Rattle.tv_strategy.specs.Conditions.{number_of}
 use Rattle.tv_strategy.specs.Views.{children_view}
-use Rattle.tv_strategy.proofs.OfMeasures.{Summed, Sought}
+use Rattle.tv_strategy.proofs.Measures.{Summed, Sought}
 use Rattle.tv_strategy.proofs.depth.+measure.Given as goal
 
 abbrev pub decreases-measure : goal.decreases-measure

@@ -1,4 +1,4 @@
-use Rattle.tv_strategy.proofs.OfLaws.{outputs-stand}
+use Rattle.tv_strategy.proofs.LawLemmas.{outputs-stand}
 use Rattle.tv_strategy.proofs.laws.outputs_have_depth.Goals as goal
 
 pub returns : goal.returns

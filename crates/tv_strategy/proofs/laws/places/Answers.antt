@@ -1,8 +1,8 @@
-use Rattle.tv_strategy.proofs.OfEnds.{split-of_end}
+use Rattle.tv_strategy.proofs.Ends.{split-of_end}
 use Rattle.tv_strategy.proofs.ThereAll.{job-there}
-use Rattle.tv_strategy.proofs.OfLaws.{split-names_leaves, nothing-exactly}
-use Rattle.tv_strategy.proofs.OfJoins.{joined-undoes}
-use Rattle.tv_strategy.proofs.OfReturns.{joins-back}
+use Rattle.tv_strategy.proofs.LawLemmas.{split-names_leaves, nothing-exactly}
+use Rattle.tv_strategy.proofs.Joins.{joined-undoes}
+use Rattle.tv_strategy.proofs.Returns.{joins-back}
 use Rattle.tv_strategy.proofs.laws.places.Goals as goal
 
 pub returns : goal.returns

@@ -1,4 +1,4 @@
-use Rattle.tv_strategy.proofs.OfLaws.{sources-nodes, outputs-sources}
+use Rattle.tv_strategy.proofs.LawLemmas.{sources-nodes, outputs-sources}
 use Rattle.tv_strategy.proofs.laws.sources.Goals as goal
 
 pub returns : goal.returns

@@ -1,13 +1,13 @@
 use Rattle.std.proofs.Common.{◌≡◌, ◌<◌, ◌≤◌, ◌+◌, length, drop, length-append, Bool, not, refl, Some, None, false, true, arith, ap, sym, subst, ◌∙◌}
 use Rattle.tv_lemmas.proofs.Tests.{from-false_true}
 use Rattle.tv_value.specs.Views.{strategy_view}
-use Rattle.tv_value.proofs.OfTrees.{size, sizes, size-item, strategies_of-drop, strategies_of-end}
+use Rattle.tv_value.proofs.TreeLemmas.{size, sizes, size-item, strategies_of-drop, strategies_of-end}
 use Rattle.tv_strategy.specs.Conditions.{place_of}
 use Rattle.tv_strategy.specs.Splits.{joined, joined_cross, joined_dot, one_after, same_place}
 use Rattle.tv_strategy.specs.Views.{children_view}
-use Rattle.tv_strategy.proofs.OfPlaces.{cross-end, cross-next, cross-none, all_at-differs, all_at-end, all_at-next, all_at-none, dot-all}
+use Rattle.tv_strategy.proofs.PlaceLemmas.{cross-end, cross-next, cross-none, all_at-differs, all_at-end, all_at-next, all_at-none, dot-all}
 use Rattle.tv_strategy.specs.Rooms.{room_of_all}
-use Rattle.tv_strategy.proofs.OfRooms.{most-next, room-left, room-next}
+use Rattle.tv_strategy.proofs.Rooms.{most-next, room-left, room-next}
 use Rattle.tv_strategy.proofs.places.+join.Goals as goal
 
 pub join_cross-join_tree-requires : goal.join_cross-join_tree-requires

@@ -1,10 +1,10 @@
 use Rattle.std.proofs.Common.{◌≡◌, ◌+◌, ◌≤◌, Some, drop, length}
 use Rattle.tv_value.specs.Views.{strategy_view}
-use Rattle.tv_value.proofs.OfTrees.{size, sizes}
+use Rattle.tv_value.proofs.TreeLemmas.{size, sizes}
 use Rattle.tv_strategy.specs.Conditions.{place_of}
 use Rattle.tv_strategy.specs.Splits.{joined_cross, one_after}
 use Rattle.tv_strategy.specs.Views.{children_view}
-use Rattle.tv_strategy.proofs.OfPlaces.{all_at}
+use Rattle.tv_strategy.proofs.PlaceLemmas.{all_at}
 use Rattle.tv_strategy.specs.Rooms.{room_of_all, room_of_most}
 use Rattle.tv_strategy.proofs.places.+join.Given as goal
 

@@ -2,12 +2,12 @@ use Rattle.std.proofs.Common.{◌≡◌, ◌+◌, ◌<◌, ◌≤◌, ◌++◌, 
 use Rattle.std.proofs.lemmas.List.{take_rest}
 use Rattle.tv_value.specs.Strategies.{dot}
 use Rattle.tv_value.specs.Views.{strategy_view}
-use Rattle.tv_value.proofs.OfTrees.{size, sizes, size-item, strategies_of-drop, strategies_of-end}
+use Rattle.tv_value.proofs.TreeLemmas.{size, sizes, size-item, strategies_of-drop, strategies_of-end}
 use Rattle.tv_strategy.specs.Conditions.{number_of}
 use Rattle.tv_strategy.specs.Measures.{strategy_depth, DotsAgree}
 use Rattle.tv_strategy.specs.Splits.{split, split_dot}
 use Rattle.tv_strategy.specs.Views.{children_view}
-use Rattle.tv_strategy.proofs.OfSplits.{taken-agrees, taken-all, taken-fits, taken-next, AllDeep, all-deep, given-all, given-child, given-first, given-next}
+use Rattle.tv_strategy.proofs.Splits.{taken-agrees, taken-all, taken-fits, taken-next, AllDeep, all-deep, given-all, given-child, given-first, given-next}
 use Rattle.tv_strategy.proofs.places.+split.Goals as goal
 
 pub split_cross-split_into-requires : goal.split_cross-split_into-requires

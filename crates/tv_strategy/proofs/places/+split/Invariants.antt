@@ -1,9 +1,9 @@
 use Rattle.std.proofs.Common.{drop, take}
 use Rattle.tv_value.specs.Views.{strategy_view}
-use Rattle.tv_value.proofs.OfTrees.{size, sizes}
+use Rattle.tv_value.proofs.TreeLemmas.{size, sizes}
 use Rattle.tv_strategy.specs.Conditions.{number_of}
 use Rattle.tv_strategy.specs.Views.{children_view}
-use Rattle.tv_strategy.proofs.OfSplits.{Taken, Given}
+use Rattle.tv_strategy.proofs.Splits.{Taken, Given}
 use Rattle.tv_strategy.proofs.places.+split.Given as goal
 
 abbrev pub decreases-split_into : goal.decreases-split_into

@@ -3,8 +3,8 @@ use Rattle.tv_value.specs.Views.{strategy_view}
 use Rattle.tv_strategy.specs.Conditions.{number_of, place_of}
 use Rattle.tv_strategy.specs.Promises.{UndoesSplit, DotDiffers}
 use Rattle.tv_strategy.specs.Splits.{joined}
-use Rattle.tv_strategy.proofs.OfJoins.{joined-undoes, none-exactly, ok-then}
-use Rattle.tv_strategy.proofs.OfRooms.{room-depth}
+use Rattle.tv_strategy.proofs.Joins.{joined-undoes, none-exactly, ok-then}
+use Rattle.tv_strategy.proofs.Rooms.{room-depth}
 use Rattle.tv_strategy.proofs.places.join.Goals as goal
 
 pub returns-clause-undoes : goal.returns-clause-undoes

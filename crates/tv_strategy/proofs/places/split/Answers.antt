@@ -3,8 +3,8 @@ use Rattle.tv_value.specs.Views.{strategy_view}
 use Rattle.tv_strategy.specs.Conditions.{number_of}
 use Rattle.tv_strategy.specs.Promises.{ArePlacesOfEnd}
 use Rattle.tv_strategy.specs.Splits.{split}
-use Rattle.tv_strategy.proofs.OfEnds.{split-of_end}
-use Rattle.tv_strategy.proofs.OfSplits.{take-whole}
+use Rattle.tv_strategy.proofs.Ends.{split-of_end}
+use Rattle.tv_strategy.proofs.Splits.{take-whole}
 use Rattle.tv_strategy.proofs.places.split.Goals as goal
 
 pub returns-clause-ends : goal.returns-clause-ends

@@ -1,11 +1,11 @@
 use Rattle.std.proofs.Common.{◌≡◌, ◌≢◌, ◌<◌, ◌≤◌, ◌+◌, ◌^◌, ◌⊎◌, inl, inr, ℕ, zero, suc, arith, refl, sym, ap, ◌∙◌, subst, true, false, Some, None, Option, List, ◌∷◌, length}
 use Rattle.std.proofs.lemmas.Result.{IfOk-weaker, IfErr-weaker, err_from_is_err_and}
 use Rattle.tv_pool.specs.Pool.{item_in, number_of, lies_at}
-use Rattle.tv_nodes.specs.declared.nodes.Entry.{Entry}
-use Rattle.tv_nodes.specs.Nodes.{part_in, body_in}
-use Rattle.tv_nodes.specs.Stands.{Spot, AreNodes}
-use Rattle.tv_nodes.specs.Calls.{count_in}
-use Rattle.tv_nodes.proofs.Calls.{keeps-both}
+use Rattle.tv_stream.specs.declared.nodes.Entry.{Entry}
+use Rattle.tv_stream.specs.nodes.Nodes.{part_in, body_in}
+use Rattle.tv_stream.specs.nodes.Stands.{Spot, AreNodes}
+use Rattle.tv_stream.specs.nodes.Calls.{count_in}
+use Rattle.tv_stream.proofs.NodeCalls.{keeps-both}
 use Rattle.tv_stream.specs.declared.held.Held.{Held}
 use Rattle.tv_stream.specs.declared.refusals.ArriveRefused.{ArriveRefused}
 use Rattle.tv_parts.specs.Partials.{wanting, part_at}

@@ -4,11 +4,11 @@ use Rattle.std.proofs.lemmas.Bool.{false≢true}
 use Rattle.tv_lemmas.proofs.Numbers.{none-below, less-positive}
 use Rattle.tv_lemmas.proofs.Lists.{rest-less}
 use Rattle.tv_pool.specs.Pool.{item_in, number_of, lies_at}
-use Rattle.tv_nodes.specs.declared.nodes.Entry.{Entry}
-use Rattle.tv_nodes.specs.Nodes.{part_in, body_in}
-use Rattle.tv_nodes.specs.Stands.{Spot, AreNodes}
-use Rattle.tv_nodes.specs.Calls.{Sets, count_in}
-use Rattle.tv_nodes.proofs.Calls.{keeps-both}
+use Rattle.tv_stream.specs.declared.nodes.Entry.{Entry}
+use Rattle.tv_stream.specs.nodes.Nodes.{part_in, body_in}
+use Rattle.tv_stream.specs.nodes.Stands.{Spot, AreNodes}
+use Rattle.tv_stream.specs.nodes.Calls.{Sets, count_in}
+use Rattle.tv_stream.proofs.NodeCalls.{keeps-both}
 use Rattle.tv_stream.specs.declared.held.Held.{Held}
 use Rattle.tv_stream.specs.declared.refusals.CloseRefused.{CloseRefused}
 use Rattle.tv_parts.specs.Partials.{wanting, part_at}

@@ -1,10 +1,10 @@
 use Rattle.std.proofs.Common.{◌≡◌, ◌<◌, ◌≤◌, ℕ, zero, suc, arith, refl, sym, ap, ◌∙◌, subst, false, if◌then◌else◌, Some, None, Option, [], ◌^◌}
 use Rattle.std.specs.Option.{is_some}
 use Rattle.tv_pool.specs.Pool.{item_in, lies_at}
-use Rattle.tv_nodes.specs.Stands.{Spot}
-use Rattle.tv_nodes.specs.Calls.{Sets}
-use Rattle.tv_nodes.specs.declared.nodes.Entry.{Entry}
-use Rattle.tv_nodes.specs.Nodes.{body_in}
+use Rattle.tv_stream.specs.nodes.Stands.{Spot}
+use Rattle.tv_stream.specs.nodes.Calls.{Sets}
+use Rattle.tv_stream.specs.declared.nodes.Entry.{Entry}
+use Rattle.tv_stream.specs.nodes.Nodes.{body_in}
 use Rattle.tv_parts.specs.Changes.{close_at, CanClose}
 use Rattle.tv_stream.specs.declared.held.Held.{Held}
 use Rattle.tv_stream.specs.declared.held.Part.TheVariants.{Item, Numbered}

@@ -1,8 +1,8 @@
 use Rattle.std.proofs.Common.{sym, subst, inl}
 use Rattle.tv_lemmas.proofs.Options.{some-not_none}
 use Rattle.tv_pool.specs.Pool.{item_in, number_of, lies_at}
-use Rattle.tv_nodes.specs.Stands.{AreNodes}
-use Rattle.tv_nodes.specs.Calls.{IsGap, HangsPart}
+use Rattle.tv_stream.specs.nodes.Stands.{AreNodes}
+use Rattle.tv_stream.specs.nodes.Calls.{IsGap, HangsPart}
 use Rattle.tv_stream.proofs.Bases.{same-memory, parted-new, parted-old, on-err}
 use Rattle.tv_stream.proofs.changes.part_or_new.Goals as goal
 

@@ -4,7 +4,7 @@ use Rattle.tv_matching.specs.Matchers.{leaf_name}
 use Rattle.tv_telling.specs.Views.{HasPiece, IsFaultless, happening}
 use Rattle.tv_telling.specs.WayTellings.{told_there}
 use Rattle.tv_telling.proofs.Adding.{adds-same}
-use Rattle.tv_telling.proofs.OfWays.{given-there, none-given}
+use Rattle.tv_telling.proofs.WayLemmas.{given-there, none-given}
 use Rattle.tv_telling.proofs.events.tell_there.Goals as goal
 
 pub tell_piece-requires : goal.tell_piece-requires

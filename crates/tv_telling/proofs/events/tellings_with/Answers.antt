@@ -1,7 +1,7 @@
 use Rattle.std.proofs.Common.{◌++◌, ap, ◌∙◌, get_or, None}
 use Rattle.tv_telling.specs.Views.{HasOutput, way_tellings}
 use Rattle.tv_telling.specs.declared.ways.Way.{Way}
-use Rattle.tv_telling.proofs.OfWays.{each-at, flat-step}
+use Rattle.tv_telling.proofs.WayLemmas.{each-at, flat-step}
 use Rattle.tv_telling.proofs.events.tellings_with.Goals as goal
 
 pub tell_way-requires : goal.tell_way-requires

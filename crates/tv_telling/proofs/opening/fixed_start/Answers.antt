@@ -2,7 +2,7 @@ use Rattle.std.proofs.Common.{ap₂, ◌∙◌, subst, OnOk, []}
 use Rattle.tv_value.specs.Nested.{at}
 use Rattle.tv_value.specs.Views.{view}
 use Rattle.tv_cell.specs.Found.{found_value}
-use Rattle.tv_cell.proofs.OfPieces.{part-value}
+use Rattle.tv_cell.proofs.PieceLemmas.{part-value}
 use Rattle.tv_matching.specs.Matchers.{leaf_name}
 use Rattle.tv_telling.specs.ValueTellings.{value_told}
 use Rattle.tv_telling.specs.Views.{AddsTellings}

@@ -7,9 +7,9 @@ use Rattle.tv_cell.specs.PieceValues.{piece_value}
 use Rattle.tv_matching.specs.Matchers.{leaf_name}
 use Rattle.tv_matching.specs.Told.{close}
 use Rattle.tv_telling.specs.Views.{AddsTellings}
-use Rattle.tv_wires.specs.declared.feeds.NumberedFeed.TheVariants.{Merge}
+use Rattle.tv_check.specs.declared.feeds.NumberedFeed.TheVariants.{Merge}
 use Rattle.tv_telling.specs.Openings.{IsInput, numbered_feed_start}
-use Rattle.tv_telling.proofs.OfOpenings.{added-next, next-link}
+use Rattle.tv_telling.proofs.Openings.{added-next, next-link}
 use Rattle.tv_telling.proofs.opening.merge_start.Goals as goal
 
 pub whole_merge_start-requires : goal.whole_merge_start-requires

@@ -3,9 +3,9 @@ use Rattle.tv_value.specs.Nested.{list, no_trees}
 use Rattle.tv_value.specs.Views.{view}
 use Rattle.tv_cell.specs.PieceValues.{piece_value}
 use Rattle.tv_matching.specs.Matchers.{leaf_name}
-use Rattle.tv_wires.specs.declared.feeds.NumberedFeed.TheVariants.{Merge}
+use Rattle.tv_check.specs.declared.feeds.NumberedFeed.TheVariants.{Merge}
 use Rattle.tv_telling.specs.Openings.{fixed_in, numbered_feed_start}
-use Rattle.tv_telling.proofs.OfOpenings.{fixed-opens, link-opens, merge-opens, tells-alike}
+use Rattle.tv_telling.proofs.Openings.{fixed-opens, link-opens, merge-opens, tells-alike}
 use Rattle.tv_telling.proofs.opening.port_start.Goals as goal
 
 pub returns-in-Link : goal.returns-in-Link

@@ -4,14 +4,14 @@ use Rattle.tv_value.specs.Nested.{list, trees_of}
 use Rattle.tv_cell.specs.PieceValues.{piece_value, piece_values}
 use Rattle.tv_value.specs.Values.{holds_fault}
 use Rattle.tv_cell.specs.Found.{found_value}
-use Rattle.tv_cell.proofs.OfFaults.{no-fault-inside}
-use Rattle.tv_cell.proofs.OfPieces.{count-each, list-holds, list-value, part-value}
+use Rattle.tv_cell.proofs.Faults.{no-fault-inside}
+use Rattle.tv_cell.proofs.PieceLemmas.{count-each, list-holds, list-value, part-value}
 use Rattle.tv_matching.specs.Matchers.{leaf_name}
 use Rattle.tv_match.specs.Seen.{told_view}
 use Rattle.tv_telling.specs.ValueTellings.{value_told}
 use Rattle.tv_telling.proofs.Adding.{adds-both}
-use Rattle.tv_telling.proofs.OfSizes.{item-smaller, size, sizes}
-use Rattle.tv_telling.proofs.OfValues.{list-told, none-at, popped, rest-end, rest-step, told_rest}
+use Rattle.tv_telling.proofs.Sizes.{item-smaller, size, sizes}
+use Rattle.tv_telling.proofs.Values.{list-told, none-at, popped, rest-end, rest-step, told_rest}
 use Rattle.tv_telling.proofs.walking.+piece.Goals.{tell_piece-then-faulty-2, tell_piece-else-faulty-2}
 use Rattle.tv_telling.proofs.walking.+piece.Goals as goal
 

@@ -4,8 +4,8 @@ use Rattle.tv_value.specs.Nested.{trees_of}
 use Rattle.tv_cell.specs.PieceValues.{piece_value, piece_values}
 use Rattle.tv_matching.specs.Matchers.{leaf_name}
 use Rattle.tv_match.specs.Seen.{told_view}
-use Rattle.tv_telling.proofs.OfSizes.{size, sizes}
-use Rattle.tv_telling.proofs.OfValues.{told_rest}
+use Rattle.tv_telling.proofs.Sizes.{size, sizes}
+use Rattle.tv_telling.proofs.Values.{told_rest}
 use Rattle.tv_telling.proofs.walking.+piece.Given as goal
 
 abbrev pub decreases-tell_piece : goal.decreases-tell_piece

@@ -4,15 +4,15 @@ use Rattle.std.proofs.lemmas.Result.{on_ok_weaker}
 use Rattle.tv_value.specs.Nested.{all_leaves, count, trees_of}
 use Rattle.tv_value.specs.Values.{holds_fault, is_fault}
 use Rattle.tv_value.specs.Views.{view, items_view}
-use Rattle.tv_value.proofs.OfFaults.{hold_fault-each}
-use Rattle.tv_value.proofs.OfItems.{items_view-each}
-use Rattle.tv_cell.proofs.OfPieces.{count-each, list-view}
+use Rattle.tv_value.proofs.Faults.{hold_fault-each}
+use Rattle.tv_value.proofs.ItemLemmas.{items_view-each}
+use Rattle.tv_cell.proofs.PieceLemmas.{count-each, list-view}
 use Rattle.tv_matching.specs.Matchers.{leaf_name}
 use Rattle.tv_match.specs.Seen.{told_view}
 use Rattle.tv_telling.specs.ValueTellings.{value_told, values_told}
 use Rattle.tv_telling.proofs.Adding.{adds-both}
-use Rattle.tv_telling.proofs.OfValues.{list-told, none-at, popped, rest-end, rest-step, told_rest}
-use Rattle.tv_telling.proofs.OfSizes.{item-smaller, size, sizes}
+use Rattle.tv_telling.proofs.Values.{list-told, none-at, popped, rest-end, rest-step, told_rest}
+use Rattle.tv_telling.proofs.Sizes.{item-smaller, size, sizes}
 use Rattle.tv_telling.proofs.walking.+value.Goals as goal
 
 pub tell_value-returns-in_ok-tell_list-in-List-clause-told :

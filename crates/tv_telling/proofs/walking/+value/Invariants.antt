@@ -3,8 +3,8 @@ use Rattle.tv_value.specs.Strategies.{Strategy}
 use Rattle.tv_value.specs.Views.{items_view, view}
 use Rattle.tv_matching.specs.Matchers.{leaf_name}
 use Rattle.tv_match.specs.Seen.{told_view}
-use Rattle.tv_telling.proofs.OfSizes.{size, sizes}
-use Rattle.tv_telling.proofs.OfValues.{told_rest}
+use Rattle.tv_telling.proofs.Sizes.{size, sizes}
+use Rattle.tv_telling.proofs.Values.{told_rest}
 use Rattle.tv_telling.proofs.walking.+value.Given as goal
 
 abbrev pub decreases-tell_items : goal.decreases-tell_items

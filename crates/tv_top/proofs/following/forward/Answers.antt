@@ -5,7 +5,7 @@ use Rattle.tv_check.specs.RunViews.{run_view}
 use Rattle.tv_top.specs.Answers.{given_at}
 use Rattle.tv_top.specs.Asking.{AsksThese, asks_of_run, asks_to}
 use Rattle.tv_top.specs.Words.{forward}
-use Rattle.tv_top.proofs.OfElements.{where-there}
+use Rattle.tv_top.proofs.Elements.{where-there}
 use Rattle.tv_top.proofs.Questions.{all-begin}
 use Rattle.tv_top.proofs.following.forward.Goals as goal
 

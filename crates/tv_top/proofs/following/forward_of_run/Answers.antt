@@ -2,14 +2,14 @@ use Rattle.std.specs.Prelude.{map}
 use Rattle.std.proofs.Common.{ap, ◌∙◌}
 use Rattle.tv_lemmas.proofs.Options.{on-err}
 use Rattle.tv_check.specs.RunViews.{run_view}
-use Rattle.tv_entries.specs.Runs.{Run}
+use Rattle.tv_work.specs.Runs.{Run}
 use Rattle.tv_lineage.specs.Kept.{records_of}
 use Rattle.tv_lineage.specs.Views.{leaf_view}
 use Rattle.tv_model.specs.Lineages.{forward}
 use Rattle.tv_model.specs.Meanings.{meaning}
 use Rattle.tv_model.specs.Turns.{ask_order}
 use Rattle.tv_work.specs.Asked.{call_of}
-use Rattle.tv_top.proofs.OfElements.{forward-so}
+use Rattle.tv_top.proofs.Elements.{forward-so}
 use Rattle.tv_top.proofs.Questions.{all-begin}
 use Rattle.tv_top.proofs.following.forward_of_run.Goals as goal
 

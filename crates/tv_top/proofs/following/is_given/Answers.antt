@@ -2,7 +2,7 @@ use Rattle.std.specs.Prelude.{is_some, option_map}
 use Rattle.std.proofs.Common.{ap, sym, ◌∙◌}
 use Rattle.tv_value.specs.Views.{view}
 use Rattle.tv_top.specs.Answers.{given_at}
-use Rattle.tv_top.proofs.OfElements.{is-there, not-there}
+use Rattle.tv_top.proofs.Elements.{is-there, not-there}
 use Rattle.tv_top.proofs.following.is_given.Goals as goal
 
 pub returns-in-Some : goal.returns-in-Some

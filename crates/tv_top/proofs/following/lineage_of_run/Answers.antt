@@ -2,14 +2,14 @@ use Rattle.std.specs.Prelude.{Some, map, option_map}
 use Rattle.std.proofs.Common.{ap, sym, ◌∙◌}
 use Rattle.tv_lemmas.proofs.Options.{on-err}
 use Rattle.tv_check.specs.RunViews.{run_view}
-use Rattle.tv_entries.specs.Runs.{Run}
+use Rattle.tv_work.specs.Runs.{Run}
 use Rattle.tv_lineage.specs.Kept.{records_of}
 use Rattle.tv_lineage.specs.Views.{mark_view}
 use Rattle.tv_model.specs.Lineages.{lineage_of}
 use Rattle.tv_model.specs.Meanings.{meaning}
 use Rattle.tv_model.specs.Turns.{ask_order}
 use Rattle.tv_work.specs.Asked.{call_of}
-use Rattle.tv_top.proofs.OfElements.{lineage-so, none-so}
+use Rattle.tv_top.proofs.Elements.{lineage-so, none-so}
 use Rattle.tv_top.proofs.Questions.{all-begin}
 use Rattle.tv_top.proofs.following.lineage_of_run.Goals as goal
 

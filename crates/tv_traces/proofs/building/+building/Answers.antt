@@ -1,5 +1,5 @@
 use Rattle.std.proofs.Common.{arith, sym, ap, ap₂, subst, refl, ◌≡◌, ◌∙◌, ◌++◌, ◌∷◌, [], length, map, ℕ, suc, ◌+◌, ◌-◌, Some}
-use Rattle.tv_levels.specs.Views.{what_view}
+use Rattle.tv_frame.specs.Views.{what_view}
 use Rattle.std.proofs.lemmas.List.{length-map, map-append}
 use Rattle.tv_lemmas.specs.Members.{Each}
 use Rattle.tv_flow.specs.Views.{flow_view}
@@ -7,12 +7,12 @@ use Rattle.tv_lineage.specs.Kept.{IsBefore}
 use Rattle.tv_lineage.specs.Views.{mark_view, part_view}
 use Rattle.tv_traces.specs.OfNodes.{AreBuilt, IsBuilt}
 use Rattle.tv_traces.specs.Feeds.{node_parts}
-use Rattle.tv_traces.proofs.OfBuilding.{fault-built, job-built, list-built, none-built, none-of_list, one-more}
-use Rattle.tv_traces.proofs.OfGroups.{all-grow}
+use Rattle.tv_traces.proofs.BuildingLemmas.{fault-built, job-built, list-built, none-built, none-of_list, one-more}
+use Rattle.tv_traces.proofs.Groups.{all-grow}
 use Rattle.tv_traces.specs.Building.{telling}
 use Rattle.tv_traces.specs.Views.{node_view, shapes_view}
 use Rattle.tv_traces.proofs.Noting.{at-level, next-level, told-is, told-none}
-use Rattle.tv_traces.proofs.OfNodes.{job-view, list-view, passed-view}
+use Rattle.tv_traces.proofs.Nodes.{job-view, list-view, passed-view}
 use Rattle.tv_traces.proofs.building.+building.Goals as goal
 
 pub node_below-returns-then-levels-eq0 : goal.node_below-returns-then-levels-eq0

@@ -3,8 +3,8 @@ use Rattle.tv_lemmas.specs.Members.{Each}
 use Rattle.tv_flow.specs.Views.{flow_view}
 use Rattle.tv_lineage.specs.Kept.{IsBefore, all_marks, is_noted, records_of}
 use Rattle.tv_lineage.specs.Views.{part_view, with_job}
-use Rattle.tv_traces.proofs.OfBuilding.{job-noted, job-there}
-use Rattle.tv_traces.proofs.OfGroups.{bound-stands}
+use Rattle.tv_traces.proofs.BuildingLemmas.{job-noted, job-there}
+use Rattle.tv_traces.proofs.Groups.{bound-stands}
 use Rattle.tv_traces.specs.Building.{telling}
 use Rattle.tv_traces.specs.Views.{shapes_view}
 use Rattle.tv_traces.proofs.Noting.{both-ok}

@@ -1,7 +1,7 @@
 use Rattle.std.proofs.Common.{sym}
 use Rattle.std.specs.Prelude.{◌==◌}
 use Rattle.std.proofs.lemmas.Bool.{eq-eqb, ne_eqb}
-use Rattle.tv_wires.specs.declared.ports.Port.{Port}
+use Rattle.tv_check.specs.declared.ports.Port.{Port}
 use Rattle.tv_traces.proofs.Looping.{found-at, none-at, none-all}
 use Rattle.tv_traces.proofs.building.port_of.Goals as goal
 

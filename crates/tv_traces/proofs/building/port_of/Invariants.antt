@@ -1,6 +1,6 @@
 use Rattle.std.proofs.Common.{◌≡◌, None, take}
 use Rattle.std.specs.Prelude.{find, ◌==◌}
-use Rattle.tv_wires.specs.declared.ports.Port.{Port}
+use Rattle.tv_check.specs.declared.ports.Port.{Port}
 use Rattle.tv_traces.proofs.building.port_of.Given as goal
 
 abbrev pub invariant-loop-port : goal.invariant-loop-port

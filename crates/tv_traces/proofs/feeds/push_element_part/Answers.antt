@@ -2,7 +2,7 @@ use Rattle.std.proofs.Common.{ap, ◌∙◌}
 use Rattle.tv_lineage.specs.Kept.{element}
 use Rattle.tv_lineage.specs.Views.{part_view}
 use Rattle.tv_traces.specs.Feeds.{as_part, element_parts}
-use Rattle.tv_traces.proofs.OfNodes.{single}
+use Rattle.tv_traces.proofs.Nodes.{single}
 use Rattle.tv_traces.proofs.Telling.{no-input, none-pushed, pushed-one, some-input}
 use Rattle.tv_traces.proofs.feeds.push_element_part.Goals as goal
 

@@ -3,7 +3,7 @@ use Rattle.tv_lineage.specs.Views.{mark_view}
 use Rattle.tv_traces.specs.Shapes.{job_here, passed_by}
 use Rattle.tv_traces.specs.Views.{node_view}
 use Rattle.std.proofs.Common.{ap}
-use Rattle.tv_traces.proofs.OfNodes.{job-view, passed-view, stops, way-ends, way-goes_on}
+use Rattle.tv_traces.proofs.Nodes.{job-view, passed-view, stops, way-ends, way-goes_on}
 use Rattle.tv_traces.proofs.feeds.way_to.Goals as goal
 
 pub returns-in-None-clause-node : goal.returns-in-None-clause-node

@@ -1,6 +1,6 @@
 use Rattle.std.proofs.Common.{arith, sym}
 use Rattle.tv_traces.specs.Growing.{IsAroundOne, WithAround}
-use Rattle.tv_traces.proofs.OfGrowing.{item-kept, item-updated}
+use Rattle.tv_traces.proofs.GrowingLemmas.{item-kept, item-updated}
 use Rattle.tv_traces.proofs.growing.grow.Goals as goal
 
 pub returns-then-is_long : goal.returns-then-is_long

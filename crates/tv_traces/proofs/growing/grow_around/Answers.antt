@@ -3,7 +3,7 @@ use Rattle.std.specs.BTreeMap.{get}
 use Rattle.std.proofs.lemmas.List.{get_or_default}
 use Rattle.tv_value.specs.Orders.{place_cmp}
 use Rattle.tv_traces.specs.Growing.{AreGrownBy, IsAroundOne, WithAround}
-use Rattle.tv_traces.proofs.OfGrowing.{all-more, around-more}
+use Rattle.tv_traces.proofs.GrowingLemmas.{all-more, around-more}
 use Rattle.tv_traces.proofs.growing.grow_around.Goals as goal
 
 pub loop-depth-preserved : goal.loop-depth-preserved

@@ -2,7 +2,7 @@ use Rattle.std.proofs.Common.{◌++◌, map, take}
 use Rattle.std.specs.BTreeMap.{get}
 use Rattle.tv_value.specs.Orders.{place_cmp}
 use Rattle.tv_traces.specs.Sights.{level_spot}
-use Rattle.tv_traces.proofs.OfGrowing.{all-around, next-around}
+use Rattle.tv_traces.proofs.GrowingLemmas.{all-around, next-around}
 use Rattle.tv_traces.proofs.growing.grow_by_levels.Goals as goal
 
 pub loop-level-preserved : goal.loop-level-preserved

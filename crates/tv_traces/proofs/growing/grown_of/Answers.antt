@@ -2,7 +2,7 @@ use Rattle.std.proofs.Common.{[], map}
 use Rattle.std.specs.BTreeMap.{get}
 use Rattle.tv_value.specs.Orders.{place_cmp}
 use Rattle.tv_traces.specs.Sights.{job_view, level_spot}
-use Rattle.tv_traces.proofs.OfGrowing.{all-grown, none-at, nothing-grown}
+use Rattle.tv_traces.proofs.GrowingLemmas.{all-grown, none-at, nothing-grown}
 use Rattle.tv_traces.proofs.growing.grown_of.Goals as goal
 
 pub returns : goal.returns

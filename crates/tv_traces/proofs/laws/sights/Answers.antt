@@ -1,4 +1,4 @@
-use Rattle.tv_traces.proofs.OfLaws.{main-is_known, so_far-is_seen, whole-is_seen}
+use Rattle.tv_traces.proofs.LawLemmas.{main-is_known, so_far-is_seen, whole-is_seen}
 use Rattle.tv_traces.proofs.laws.sights.Goals as goal
 
 pub returns : goal.returns

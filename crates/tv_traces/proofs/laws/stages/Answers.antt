@@ -1,4 +1,4 @@
-use Rattle.tv_traces.proofs.OfLaws.{records-are_of_main_jobs, stages-go_on}
+use Rattle.tv_traces.proofs.LawLemmas.{records-are_of_main_jobs, stages-go_on}
 use Rattle.tv_traces.proofs.laws.stages.Goals as goal
 
 pub returns : goal.returns

@@ -1,4 +1,4 @@
-use Rattle.tv_traces.proofs.OfSights.{done-more}
+use Rattle.tv_traces.proofs.Sights.{done-more}
 use Rattle.tv_traces.proofs.settled.jobs_of.Goals as goal
 
 pub loop-job-preserved : goal.loop-job-preserved

@@ -5,14 +5,14 @@ use Rattle.tv_flow.specs.Flows.{Step}
 use Rattle.tv_flow.specs.Views.{flow_view}
 use Rattle.tv_strategy.specs.Conditions.{number_of}
 use Rattle.tv_strategy.specs.Measures.{strategy_depth}
-use Rattle.tv_instance.specs.Steps.{strategy_of}
-use Rattle.tv_wires.specs.Ports.{mismatches}
+use Rattle.tv_model.specs.instance.Steps.{strategy_of}
+use Rattle.tv_check.specs.Ports.{mismatches}
 use Rattle.tv_traces.specs.OfNodes.{IsBuilt}
 use Rattle.tv_traces.specs.Staged.{IsStage}
 use Rattle.tv_traces.specs.Stepping.{telling_of}
 use Rattle.tv_traces.specs.Sights.{done_in, what_in}
 use Rattle.tv_traces.specs.Views.{node_view, shapes_view}
-use Rattle.tv_traces.proofs.OfStart.{all-staged, more-grouped, more-staged, rank-there, set-long}
+use Rattle.tv_traces.proofs.Start.{all-staged, more-grouped, more-staged, rank-there, set-long}
 use Rattle.tv_traces.proofs.traces.traces_by.Goals as goal
 
 pub unreachable-requires : goal.unreachable-requires

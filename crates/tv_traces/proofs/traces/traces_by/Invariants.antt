@@ -6,7 +6,7 @@ use Rattle.tv_flow.specs.Flows.{Document}
 use Rattle.tv_flow.specs.Views.{flow_view}
 use Rattle.tv_strategy.specs.Origins.{Origin}
 use Rattle.tv_model.specs.Meanings.{meaning}
-use Rattle.tv_levels.specs.MainSteps.{main_steps}
+use Rattle.tv_frame.specs.MainSteps.{main_steps}
 use Rattle.tv_traces.specs.Grouped.{AllAreGrouped}
 use Rattle.tv_traces.specs.Seen.{AreSeen}
 use Rattle.tv_traces.specs.Staged.{IsStage}

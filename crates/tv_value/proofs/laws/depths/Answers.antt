@@ -1,4 +1,4 @@
-use Rattle.tv_value.proofs.OfDepths.{test-decides, depths-those, least-least, ragged-none}
+use Rattle.tv_value.proofs.DepthLemmas.{test-decides, depths-those, least-least, ragged-none}
 use Rattle.tv_value.proofs.laws.depths.Goals as goal
 
 pub returns : goal.returns

@@ -4,8 +4,8 @@ use Rattle.serde_json.specs.View.{view as json_view, items_view as json_items}
 use Rattle.tv_value.specs.Readings.{read, read_items, read_list, ragged}
 use Rattle.tv_value.specs.Views.{view}
 use Rattle.tv_value.specs.Answers.{IsReading, IsFault}
-use Rattle.tv_value.proofs.OfItems.{items_view-each}
-use Rattle.tv_value.proofs.OfReading.{put_before, read_short, read_long, read_step, read_end, fault_through}
+use Rattle.tv_value.proofs.ItemLemmas.{items_view-each}
+use Rattle.tv_value.proofs.ReadingLemmas.{put_before, read_short, read_long, read_step, read_end, fault_through}
 use Rattle.tv_value.proofs.reading.+reading.Goals as goal
 
 pub items_of-loop-index-preserved : goal.items_of-loop-index-preserved

@@ -2,7 +2,7 @@ use Rattle.std.proofs.Common.{◌≡◌, drop, map}
 use Rattle.serde_json.specs.View.{items_view as json_items}
 use Rattle.tv_value.specs.Readings.{read_items}
 use Rattle.tv_value.specs.Views.{view}
-use Rattle.tv_value.proofs.OfReading.{put_before}
+use Rattle.tv_value.proofs.ReadingLemmas.{put_before}
 use Rattle.tv_value.proofs.reading.+reading.Given as goal
 
 abbrev pub invariant-items_of-loop-index : goal.invariant-items_of-loop-index

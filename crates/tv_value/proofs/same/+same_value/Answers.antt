@@ -1,8 +1,8 @@
 use Rattle.std.proofs.Common.{map, sym, ◌∙◌}
 use Rattle.tv_value.specs.Views.{items_view, view}
-use Rattle.tv_value.proofs.OfItems.{values_view-each}
+use Rattle.tv_value.proofs.ItemLemmas.{values_view-each}
 use Rattle.tv_value.specs.Sameness.{same_values}
-use Rattle.tv_value.proofs.OfSameness.{same_trees-items}
+use Rattle.tv_value.proofs.Sameness.{same_trees-items}
 use Rattle.tv_value.proofs.same.+same_value.Goals as goal
 
 pub same_lists-returns : goal.same_lists-returns

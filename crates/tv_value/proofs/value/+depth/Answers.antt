@@ -5,7 +5,7 @@ use Rattle.std.specs.Cmp.Derive.{both_true}
 use Rattle.tv_value.specs.Nested.{trees_of}
 use Rattle.tv_value.specs.Values.{has_depth, all_have_depth}
 use Rattle.tv_value.specs.Views.{view}
-use Rattle.tv_value.proofs.OfItems.{all_have_depth-each, items_view-each}
+use Rattle.tv_value.proofs.ItemLemmas.{all_have_depth-each, items_view-each}
 use Rattle.tv_value.proofs.value.+depth.Goals as goal
 
 pub Items::have_depth-returns-then-not-has_depth : goal.Items::have_depth-returns-then-not-has_depth

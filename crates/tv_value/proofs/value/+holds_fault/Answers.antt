@@ -5,8 +5,8 @@ use Rattle.std.proofs.lemmas.List.{take_all}
 use Rattle.tv_value.specs.Nested.{trees_of, all_leaves}
 use Rattle.tv_value.specs.Values.{is_fault, holds_fault}
 use Rattle.tv_value.specs.Views.{view}
-use Rattle.tv_value.proofs.OfFaults.{hold_fault-each}
-use Rattle.tv_value.proofs.OfItems.{items_view-each}
+use Rattle.tv_value.proofs.Faults.{hold_fault-each}
+use Rattle.tv_value.proofs.ItemLemmas.{items_view-each}
 use Rattle.tv_value.proofs.value.+holds_fault.Goals as goal
 
 pub Items::hold_fault-returns-then-holds_fault : goal.Items::hold_fault-returns-then-holds_fault

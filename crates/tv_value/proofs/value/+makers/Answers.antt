@@ -3,7 +3,7 @@ use Rattle.tv_value.specs.Nested.{leaves}
 use Rattle.tv_value.specs.Values.{makers_of}
 use Rattle.tv_value.specs.Orders.{job_name_cmp, put_all}
 use Rattle.tv_value.specs.Views.{view}
-use Rattle.tv_value.proofs.OfFaults.{makers_from, makers-step}
+use Rattle.tv_value.proofs.Faults.{makers_from, makers-step}
 use Rattle.tv_value.proofs.value.+makers.Goals as goal
 
 next : (n : ℕ) → 0 < n → suc (n - 1) ≡ n

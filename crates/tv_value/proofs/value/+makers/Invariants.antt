@@ -1,6 +1,6 @@
 use Rattle.std.proofs.Common.{◌≡◌, ◌≤◌, length}
 use Rattle.tv_value.specs.Orders.{job_name_cmp, put_all}
-use Rattle.tv_value.proofs.OfFaults.{makers_from}
+use Rattle.tv_value.proofs.Faults.{makers_from}
 use Rattle.tv_value.proofs.value.+makers.Given as goal
 
 abbrev pub invariant-Items::put_makers-loop-left : goal.invariant-Items::put_makers-loop-left

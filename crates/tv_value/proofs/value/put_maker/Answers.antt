@@ -1,6 +1,6 @@
 use Rattle.std.proofs.Common.{ap, ◌∙◌}
 use Rattle.tv_value.specs.Orders.{job_name_cmp, put_in_order}
-use Rattle.tv_value.proofs.OfFaults.{put-as-key}
+use Rattle.tv_value.proofs.Faults.{put-as-key}
 use Rattle.tv_value.proofs.value.put_maker.Goals as goal
 
 pub returns : goal.returns

@@ -1,4 +1,4 @@
-use Rattle.tv_words.proofs.OfBounds.{commands-are-bounded}
+use Rattle.tv_words.proofs.Bounds.{commands-are-bounded}
 use Rattle.tv_words.proofs.laws.commands_are_bounded.Goals as goal
 
 pub returns : goal.returns

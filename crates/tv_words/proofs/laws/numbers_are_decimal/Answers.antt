@@ -1,5 +1,5 @@
 use Rattle.std.proofs.Common.{arith}
-use Rattle.tv_words.proofs.OfNumbers.{reads-from}
+use Rattle.tv_words.proofs.Numbers.{reads-from}
 use Rattle.tv_words.proofs.laws.numbers_are_decimal.Goals as goal
 
 pub returns-clause-counts : goal.returns-clause-counts

@@ -1,6 +1,6 @@
 use Rattle.std.proofs.Common.{arith, ap, sym, ◌∙◌}
 use Rattle.std.specs.Prelude.{Some}
-use Rattle.tv_words.proofs.OfNumbers.{marked, unmarked, parsed, unparsed, number-read, number-unread}
+use Rattle.tv_words.proofs.Numbers.{marked, unmarked, parsed, unparsed, number-read, number-unread}
 use Rattle.tv_words.proofs.number.number_between.Goals as goal
 
 pub returns-then-has_sign_or_zero : goal.returns-then-has_sign_or_zero

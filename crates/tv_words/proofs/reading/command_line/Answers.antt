@@ -3,7 +3,7 @@ use Rattle.std.proofs.lemmas.Result.{IfOk-weaker}
 use Rattle.clap.specs.Words.{app_of, rule_of, with_rule}
 use Rattle.clap.specs.Simple.{app_of_fields, on_top}
 use Rattle.tv_words.specs.Reading.{bare, of_rule, words_rule, workers_rule}
-use Rattle.tv_words.proofs.OfReading.{one_or_two, range-given, rule-of-required}
+use Rattle.tv_words.proofs.ReadingLemmas.{one_or_two, range-given, rule-of-required}
 use Rattle.tv_words.proofs.reading.command_line.Goals as goal
 
 pub returns : goal.returns

@@ -2,7 +2,7 @@ use Rattle.std.proofs.Common.{ap, option_map, ◌∙◌}
 use Rattle.std.proofs.lemmas.Result.{IfOk-weaker}
 use Rattle.clap.specs.Words.{app_of, found_of, rows_of}
 use Rattle.tv_words.specs.Reading.{found_in}
-use Rattle.tv_words.proofs.OfReading.{found-read, refused-read}
+use Rattle.tv_words.proofs.ReadingLemmas.{found-read, refused-read}
 use Rattle.tv_words.proofs.reading.matches_of.Goals as goal
 
 pub returns-in-Ok : goal.returns-in-Ok

@@ -4,7 +4,7 @@ use Rattle.std.proofs.lemmas.Result.{IfOk-weaker}
 use Rattle.clap.specs.Words.{found_of, rows_of}
 use Rattle.clap.proofs.WalkLemmas.{first_value-rows, raw_values-rows}
 use Rattle.tv_words.specs.Reading.{found_in}
-use Rattle.tv_words.proofs.OfCommands.{command-found, texts-or-none}
+use Rattle.tv_words.proofs.Commands.{command-found, texts-or-none}
 use Rattle.tv_words.proofs.words.read_words.Goals as goal
 
 pub returns : goal.returns

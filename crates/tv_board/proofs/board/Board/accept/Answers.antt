@@ -1,13 +1,13 @@
 use Rattle.std.proofs.Common.{ap, subst, sym, ◌∙◌}
 use Rattle.std.specs.Prelude.{IfErr, IfOk, OnErr, refl, ◌≡◌}
 use Rattle.tv_gate.specs.Views.{outcome_view}
-use Rattle.tv_entries.specs.Calls.{IsOther, state_of, try_if_out}
-use Rattle.tv_entries.specs.Refusals.{IsAccepting}
+use Rattle.tv_history.specs.Calls.{IsOther, state_of, try_if_out}
+use Rattle.tv_history.specs.Refusals.{IsAccepting}
 use Rattle.tv_run.specs.Standing.{run_of}
 use Rattle.tv_run.specs.Turns.{IsAsked}
 use Rattle.tv_board.specs.Refusals.{IsRefused, answered}
-use Rattle.tv_board.proofs.OfAnswers.{accept-back, accept-stands, accept-stays, accept-tells, asked-of, stands-open}
-use Rattle.tv_board.proofs.OfCalls.{legal-now}
+use Rattle.tv_board.proofs.Answers.{accept-back, accept-stands, accept-stays, accept-tells, asked-of, stands-open}
+use Rattle.tv_board.proofs.Calls.{legal-now}
 use Rattle.tv_board.proofs.board.Board.accept.Goals as goal
 
 pub accept-told-requires : goal.accept-told-requires

@@ -4,9 +4,9 @@ use Rattle.tv_lemmas.proofs.Options.{on-err}
 use Rattle.tv_value.specs.Views.{values_view}
 use Rattle.tv_gate.specs.Views.{outcome_view}
 use Rattle.tv_run.specs.Standing.{run_of}
-use Rattle.tv_board.proofs.OfAnswers.{accept-stands}
-use Rattle.tv_board.proofs.OfAsking.{asks-none, asks-one, asks-same, found, is-out, its, its-asked, opens, own-stays, own-tells}
-use Rattle.tv_board.proofs.OfCalls.{legal-now}
+use Rattle.tv_board.proofs.Answers.{accept-stands}
+use Rattle.tv_board.proofs.Asking.{asks-none, asks-one, asks-same, found, is-out, its, its-asked, opens, own-stays, own-tells}
+use Rattle.tv_board.proofs.Calls.{legal-now}
 use Rattle.tv_board.proofs.board.Board.ask_and_accept.Goals as goal
 
 pub asked_inputs-requires-clause-out : goal.asked_inputs-requires-clause-out

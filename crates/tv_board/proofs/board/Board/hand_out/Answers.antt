@@ -1,6 +1,6 @@
 use Rattle.std.specs.Prelude.{refl}
 use Rattle.tv_run.specs.Standing.{run_of}
-use Rattle.tv_board.proofs.OfCalls.{hand-names, hand-stands, hand-tells, legal-now, over-offers}
+use Rattle.tv_board.proofs.Calls.{hand-names, hand-stands, hand-tells, legal-now, over-offers}
 use Rattle.tv_board.proofs.board.Board.hand_out.Goals as goal
 
 pub returns-then-is_done-clause-ticket : goal.returns-then-is_done-clause-ticket

@@ -1,6 +1,6 @@
 use Rattle.std.proofs.Common.{ap, ◌∙◌}
 use Rattle.tv_history.specs.Histories.{is_done}
-use Rattle.tv_entries.specs.Runs.{past_of}
+use Rattle.tv_history.specs.Runs.{past_of}
 use Rattle.tv_board.proofs.board.Board.is_done.Goals as goal
 
 pub returns : goal.returns

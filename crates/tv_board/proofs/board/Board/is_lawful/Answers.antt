@@ -1,4 +1,4 @@
-use Rattle.tv_board.proofs.OfCalls.{legal-now}
+use Rattle.tv_board.proofs.Calls.{legal-now}
 use Rattle.tv_board.proofs.board.Board.is_lawful.Goals as goal
 
 pub returns-clause-legal : goal.returns-clause-legal

@@ -1,6 +1,6 @@
 use Rattle.std.specs.Prelude.{◌≤◌}
 use Rattle.std.proofs.Common.{ap, subst, sym, ◌∙◌}
-use Rattle.tv_entries.specs.Runs.{meant, past_of}
+use Rattle.tv_history.specs.Runs.{meant, past_of}
 use Rattle.tv_history.specs.Histories.{is_done, kept_results, node_room}
 use Rattle.tv_run.specs.Standing.{run_of}
 use Rattle.tv_board.proofs.Lived.{results-have_nodes}

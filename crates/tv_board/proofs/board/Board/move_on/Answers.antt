@@ -1,6 +1,6 @@
 use Rattle.std.specs.Prelude.{refl}
 use Rattle.tv_run.specs.Standing.{run_of}
-use Rattle.tv_board.proofs.OfCalls.{legal-now, move-stands, move-tells, over-moves, stays}
+use Rattle.tv_board.proofs.Calls.{legal-now, move-stands, move-tells, over-moves, stays}
 use Rattle.tv_board.proofs.board.Board.move_on.Goals as goal
 
 pub returns-then-is_done-clause-moved : goal.returns-then-is_done-clause-moved

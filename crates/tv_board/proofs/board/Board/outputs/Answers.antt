@@ -1,7 +1,7 @@
 use Rattle.std.proofs.Common.{ap, ◌∙◌}
 use Rattle.tv_history.specs.Histories.{is_done}
-use Rattle.tv_entries.specs.Runs.{Run, past_of}
-use Rattle.tv_board.proofs.OfCalls.{outputs-told}
+use Rattle.tv_history.specs.Runs.{Run, past_of}
+use Rattle.tv_board.proofs.Calls.{outputs-told}
 use Rattle.tv_board.proofs.board.Board.outputs.Goals as goal
 
 pub outputs-requires : goal.outputs-requires

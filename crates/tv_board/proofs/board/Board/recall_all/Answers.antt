@@ -1,8 +1,8 @@
 use Rattle.std.proofs.Common.{ap, sym, ◌∙◌}
 use Rattle.std.specs.Prelude.{refl}
-use Rattle.tv_entries.specs.Calls.{out_now}
+use Rattle.tv_history.specs.Calls.{out_now}
 use Rattle.tv_run.specs.Standing.{run_of}
-use Rattle.tv_board.proofs.OfCalls.{legal-now, over-idle, over-out, recall-counts, recall-idle, recall-names, recall-none_out, recall-stands, recall-tells, stays}
+use Rattle.tv_board.proofs.Calls.{legal-now, over-idle, over-out, recall-counts, recall-idle, recall-names, recall-none_out, recall-stands, recall-tells, stays}
 use Rattle.tv_board.proofs.board.Board.recall_all.Goals as goal
 
 pub returns-then-is_done-clause-count : goal.returns-then-is_done-clause-count

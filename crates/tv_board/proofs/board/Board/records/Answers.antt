@@ -1,6 +1,6 @@
 use Rattle.std.specs.Prelude.{IfOk}
 use Rattle.std.proofs.Common.{subst}
-use Rattle.tv_entries.specs.Runs.{Run, meant, past_of}
+use Rattle.tv_history.specs.Runs.{Run, meant, past_of}
 use Rattle.tv_lineage.specs.Kept.{records_of}
 use Rattle.tv_lineage.specs.Members.{HaveSame}
 use Rattle.tv_traces.specs.Settled.{settled_records}

@@ -1,6 +1,6 @@
 use Rattle.std.specs.Prelude.{refl}
 use Rattle.tv_run.specs.Standing.{run_of}
-use Rattle.tv_board.proofs.OfCalls.{legal-now, over-settles, settle-stands, settle-tells, stays}
+use Rattle.tv_board.proofs.Calls.{legal-now, over-settles, settle-stands, settle-tells, stays}
 use Rattle.tv_board.proofs.board.Board.settle_one.Goals as goal
 
 pub returns-then-is_done-clause-settled : goal.returns-then-is_done-clause-settled

@@ -1,4 +1,4 @@
-use Rattle.tv_board.proofs.OfCalls.{legal-now, still}
+use Rattle.tv_board.proofs.Calls.{legal-now, still}
 use Rattle.std.specs.Prelude.{refl}
 use Rattle.tv_run.specs.Standing.{run_of}
 use Rattle.tv_board.proofs.board.Board.start.Goals as goal

@@ -1,10 +1,10 @@
 use Rattle.std.proofs.Common.{ap, subst, sym, ◌∙◌}
 use Rattle.std.specs.Prelude.{is_some}
-use Rattle.tv_entries.specs.Answers.{question}
-use Rattle.tv_entries.specs.Calls.{IsTask, state_of, try_if_out}
-use Rattle.tv_entries.specs.Declarations.{declared_for}
-use Rattle.tv_entries.specs.declared.ticket.Ticket.{Ticket}
-use Rattle.tv_board.proofs.OfAnswers.{none-is}
+use Rattle.tv_history.specs.Answers.{question}
+use Rattle.tv_history.specs.Calls.{IsTask, state_of, try_if_out}
+use Rattle.tv_history.specs.Declarations.{declared_for}
+use Rattle.tv_history.specs.declared.ticket.Ticket.{Ticket}
+use Rattle.tv_board.proofs.Answers.{none-is}
 use Rattle.tv_board.proofs.board.Board.task.Goals as goal
 
 pub returns-then-not-is_out-clause-fault : goal.returns-then-not-is_out-clause-fault

@@ -1,7 +1,7 @@
 use Rattle.std.proofs.Common.{ap, ◌∙◌}
-use Rattle.tv_entries.specs.Calls.{totals_so_far}
-use Rattle.tv_entries.proofs.OfTotals.{totals-done}
-use Rattle.tv_board.proofs.OfCalls.{legal-now}
+use Rattle.tv_history.specs.Calls.{totals_so_far}
+use Rattle.tv_history.proofs.Totals.{totals-done}
+use Rattle.tv_board.proofs.Calls.{legal-now}
 use Rattle.tv_board.proofs.board.Board.totals.Goals as goal
 
 pub returns-clause-so_far : goal.returns-clause-so_far

@@ -1,8 +1,8 @@
 use Rattle.std.specs.Prelude.{map, ◌≡◌}
 use Rattle.tv_lineage.specs.Views.{leaf_view}
 use Rattle.tv_model.specs.records.Recorded.{leaves}
-use Rattle.tv_entries.specs.Runs.{meant}
-use Rattle.tv_board.proofs.OfTraced.{told}
+use Rattle.tv_history.specs.Runs.{meant}
+use Rattle.tv_board.proofs.TracedLemmas.{told}
 use Rattle.tv_board.proofs.traced.Traced.leaves.Goals as goal
 
 pub returns : goal.returns

@@ -2,8 +2,8 @@ use Rattle.std.proofs.Common.{subst, sym}
 use Rattle.tv_lineage.specs.Kept.{records_of}
 use Rattle.tv_lineage.specs.Members.{HaveSame}
 use Rattle.tv_model.specs.records.Recorded.{main_records}
-use Rattle.tv_entries.specs.Runs.{meant}
-use Rattle.tv_board.proofs.OfTraced.{records-are}
+use Rattle.tv_history.specs.Runs.{meant}
+use Rattle.tv_board.proofs.TracedLemmas.{records-are}
 use Rattle.tv_board.proofs.traced.Traced.records.Goals as goal
 
 pub returns : goal.returns

@@ -4,8 +4,8 @@ use Rattle.tv_value.specs.Values.{fault, list_value, text}
 use Rattle.tv_value.specs.Views.{view}
 use Rattle.tv_cell.specs.Found.{document_of, found_value, with_depth}
 use Rattle.tv_cell.specs.PieceValues.{piece_value, piece_values}
-use Rattle.tv_cell.proofs.OfParts.{first-stands, leaf-stands}
-use Rattle.tv_cell.proofs.OfPieces.{fault-value, list-value, part-value}
+use Rattle.tv_cell.proofs.Parts.{first-stands, leaf-stands}
+use Rattle.tv_cell.proofs.PieceLemmas.{fault-value, list-value, part-value}
 use Rattle.tv_cell.proofs.piece.Piece.+has.Goals as goal
 
 pub returns-in-None : goal.returns-in-None

@@ -2,7 +2,7 @@ use Rattle.std.proofs.Common.{rules, Some, is_some, ap, sym, ◌∙◌}
 use Rattle.std.proofs.lemmas.Result.{IfOk-weaker}
 use Rattle.tv_cell.specs.declared.piece.Piece.{Piece}
 use Rattle.tv_cell.specs.PieceValues.{piece_value}
-use Rattle.tv_cell.proofs.OfParts.{fault-alone, inner-at, inner-sound, inner-within, part-joined, part-joined-sound}
+use Rattle.tv_cell.proofs.Parts.{fault-alone, inner-at, inner-sound, inner-within, part-joined, part-joined-sound}
 use Rattle.tv_cell.proofs.piece.Piece.+part.Goals as goal
 
 pub bounds-pieces-first : goal.bounds-pieces-first

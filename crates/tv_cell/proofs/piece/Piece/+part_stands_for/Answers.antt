@@ -6,8 +6,8 @@ use Rattle.tv_value.specs.Views.{view}
 use Rattle.tv_cell.specs.Found.{document_of, found_value, with_depth}
 use Rattle.tv_cell.specs.PieceValues.{piece_value, piece_values}
 use Rattle.tv_value.specs.Sameness.{same_value}
-use Rattle.tv_cell.proofs.OfParts.{first-at, leaf-is}
-use Rattle.tv_cell.proofs.OfPieces.{fault-value, got-sound, list-value, pieces-sound}
+use Rattle.tv_cell.proofs.Parts.{first-at, leaf-is}
+use Rattle.tv_cell.proofs.PieceLemmas.{fault-value, got-sound, list-value, pieces-sound}
 use Rattle.tv_cell.proofs.piece.Piece.+part_stands_for.Goals as goal
 
 pub part_stands_for-requires : goal.part_stands_for-requires

@@ -1,4 +1,4 @@
-use Rattle.tv_cell.proofs.OfPieces.{list-counts}
+use Rattle.tv_cell.proofs.PieceLemmas.{list-counts}
 use Rattle.tv_cell.proofs.piece.Piece.length.Goals as goal
 
 pub returns-in-List : goal.returns-in-List

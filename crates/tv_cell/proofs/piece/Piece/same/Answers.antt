@@ -1,6 +1,6 @@
 use Rattle.std.proofs.Common.{sym, ◌∙◌}
 use Rattle.tv_cell.specs.PieceValues.{piece_value}
-use Rattle.tv_value.proofs.OfSameness.{test-decides}
+use Rattle.tv_value.proofs.Sameness.{test-decides}
 use Rattle.tv_cell.proofs.piece.Piece.same.Goals as goal
 
 pub returns : goal.returns

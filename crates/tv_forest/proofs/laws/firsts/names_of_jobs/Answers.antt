@@ -1,5 +1,5 @@
-use Rattle.tv_forest.proofs.firsts.OfFlows.{flows-by_names}
-use Rattle.tv_forest.proofs.firsts.OfNames.{jobs-by_numbers, names-of_instances, names-stay}
+use Rattle.tv_forest.proofs.firsts.Flows.{flows-by_names}
+use Rattle.tv_forest.proofs.firsts.Names.{jobs-by_numbers, names-of_instances, names-stay}
 use Rattle.tv_forest.proofs.laws.firsts.names_of_jobs.Goals as goal
 
 pub returns : goal.returns

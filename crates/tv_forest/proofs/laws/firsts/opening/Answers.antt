@@ -1,6 +1,6 @@
-use Rattle.tv_forest.proofs.firsts.OfEnds.{nothing-at_end}
-use Rattle.tv_forest.proofs.firsts.OfHistories.{nothing-left, opening-is_legal}
-use Rattle.tv_forest.proofs.firsts.OfQuiet.{quiet-by_instances}
+use Rattle.tv_forest.proofs.firsts.Ends.{nothing-at_end}
+use Rattle.tv_forest.proofs.firsts.Histories.{nothing-left, opening-is_legal}
+use Rattle.tv_forest.proofs.firsts.Quiet.{quiet-by_instances}
 use Rattle.tv_forest.proofs.laws.firsts.opening.Goals as goal
 
 pub returns : goal.returns

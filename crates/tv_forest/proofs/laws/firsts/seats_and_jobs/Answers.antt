@@ -1,4 +1,4 @@
-use Rattle.tv_forest.proofs.firsts.OfInstances.{jobs-have_seats, seats-have_jobs}
+use Rattle.tv_forest.proofs.firsts.Instances.{jobs-have_seats, seats-have_jobs}
 use Rattle.tv_forest.proofs.laws.firsts.seats_and_jobs.Goals as goal
 
 pub returns : goal.returns

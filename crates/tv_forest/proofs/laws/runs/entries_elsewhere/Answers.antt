@@ -1,4 +1,4 @@
-use Rattle.tv_forest.proofs.runs.OfElsewhere.{elsewhere-tells_nothing, main-ends_elsewhere, others-are_elsewhere}
+use Rattle.tv_forest.proofs.runs.Elsewhere.{elsewhere-tells_nothing, main-ends_elsewhere, others-are_elsewhere}
 use Rattle.tv_forest.proofs.laws.runs.entries_elsewhere.Goals as goal
 
 pub returns : goal.returns

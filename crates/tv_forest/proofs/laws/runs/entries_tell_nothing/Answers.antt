@@ -1,4 +1,4 @@
-use Rattle.tv_forest.proofs.runs.OfEntries.{later_opening-tells_nothing, next_try-goes_on, other_tries-tell_nothing, recalls-tell_nothing}
+use Rattle.tv_forest.proofs.runs.Entries.{later_opening-tells_nothing, next_try-goes_on, other_tries-tell_nothing, recalls-tell_nothing}
 use Rattle.tv_forest.proofs.laws.runs.entries_tell_nothing.Goals as goal
 
 pub returns : goal.returns

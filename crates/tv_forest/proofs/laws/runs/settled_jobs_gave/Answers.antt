@@ -1,4 +1,4 @@
-use Rattle.tv_forest.proofs.runs.OfSettled.{accepting-settles, bouncing-settles, ending-settles, openers-are_good, settled-goes_on}
+use Rattle.tv_forest.proofs.runs.Settled.{accepting-settles, bouncing-settles, ending-settles, openers-are_good, settled-goes_on}
 use Rattle.tv_forest.proofs.laws.runs.settled_jobs_gave.Goals as goal
 
 pub returns : goal.returns

@@ -1,4 +1,4 @@
-use Rattle.tv_forest.proofs.seats.OfEntries.{handed_out-again, handed_out-first, job-settles, put_aside, tried_again}
+use Rattle.tv_forest.proofs.seats.Entries.{handed_out-again, handed_out-first, job-settles, put_aside, tried_again}
 use Rattle.tv_forest.proofs.laws.seats.seats_of_jobs.Goals as goal
 
 pub returns : goal.returns

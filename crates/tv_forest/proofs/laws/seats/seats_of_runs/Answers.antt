@@ -1,5 +1,5 @@
-use Rattle.tv_forest.proofs.seats.OfEnds.{ends-settled}
-use Rattle.tv_forest.proofs.seats.OfRuns.{level_settles, recalled_all}
+use Rattle.tv_forest.proofs.seats.Ends.{ends-settled}
+use Rattle.tv_forest.proofs.seats.Runs.{level_settles, recalled_all}
 use Rattle.tv_forest.proofs.laws.seats.seats_of_runs.Goals as goal
 
 pub returns : goal.returns

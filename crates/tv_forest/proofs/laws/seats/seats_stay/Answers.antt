@@ -1,5 +1,5 @@
-use Rattle.tv_forest.proofs.seats.OfEnds.{ended_stays}
-use Rattle.tv_forest.proofs.seats.OfRuns.{elsewhere-stays}
+use Rattle.tv_forest.proofs.seats.Ends.{ended_stays}
+use Rattle.tv_forest.proofs.seats.Runs.{elsewhere-stays}
 use Rattle.tv_forest.proofs.laws.seats.seats_stay.Goals as goal
 
 pub returns : goal.returns

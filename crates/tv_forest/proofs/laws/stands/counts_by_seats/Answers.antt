@@ -1,4 +1,4 @@
-use Rattle.tv_forest.proofs.stands.OfTold.{counts-by_seats, running-by_seats}
+use Rattle.tv_forest.proofs.stands.Told.{counts-by_seats, running-by_seats}
 use Rattle.tv_forest.proofs.laws.stands.counts_by_seats.Goals as goal
 
 pub returns : goal.returns

@@ -1,5 +1,5 @@
-use Rattle.tv_forest.proofs.stands.OfNext.{next-by_seat}
-use Rattle.tv_forest.proofs.stands.OfOffers.{bounces-by_seat, going-by_seat}
+use Rattle.tv_forest.proofs.stands.Next.{next-by_seat}
+use Rattle.tv_forest.proofs.stands.Offers.{bounces-by_seat, going-by_seat}
 use Rattle.tv_forest.proofs.laws.stands.going_by_seat.Goals as goal
 
 pub returns : goal.returns

@@ -1,4 +1,4 @@
-use Rattle.tv_forest.proofs.stands.OfOrder.{order-by_seats}
+use Rattle.tv_forest.proofs.stands.Order.{order-by_seats}
 use Rattle.tv_forest.proofs.laws.stands.order_by_seats.Goals as goal
 
 pub returns : goal.returns

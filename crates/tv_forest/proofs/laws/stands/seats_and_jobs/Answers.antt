@@ -1,5 +1,5 @@
-use Rattle.tv_forest.proofs.stands.OfOffers.{steps-of_seats}
-use Rattle.tv_forest.proofs.stands.OfSeats.{jobs-have_seats, seats-are_apart, seats-have_jobs}
+use Rattle.tv_forest.proofs.stands.Offers.{steps-of_seats}
+use Rattle.tv_forest.proofs.stands.Seats.{jobs-have_seats, seats-are_apart, seats-have_jobs}
 use Rattle.tv_forest.proofs.laws.stands.seats_and_jobs.Goals as goal
 
 pub returns : goal.returns

@@ -1,4 +1,4 @@
-use Rattle.tv_forest.proofs.tries.OfTries.{asks-plan, asks-step, few}
+use Rattle.tv_forest.proofs.tries.Tries.{asks-plan, asks-step, few}
 use Rattle.tv_forest.proofs.laws.tries.asks_are_of_steps.Goals as goal
 
 pub returns : goal.returns

@@ -1,4 +1,4 @@
-use Rattle.tv_forest.proofs.tries.OfJobs.{bounced-by, bounced-none}
+use Rattle.tv_forest.proofs.tries.Jobs.{bounced-by, bounced-none}
 use Rattle.tv_forest.proofs.laws.tries.bounced_jobs.Goals as goal
 
 pub returns : goal.returns

@@ -1,4 +1,4 @@
-use Rattle.tv_forest.proofs.tries.OfFlows.{flow-is_of_step, flows-come_after_asks}
+use Rattle.tv_forest.proofs.tries.Flows.{flow-is_of_step, flows-come_after_asks}
 use Rattle.tv_forest.proofs.laws.tries.flows_follow.Goals as goal
 
 pub returns : goal.returns

@@ -1,8 +1,8 @@
 use Rattle.tv_history.proofs.Ready.{AnyNumber, document-whole}
 use Rattle.tv_history.proofs.Sums.{settled-failed}
 use Rattle.tv_model.specs.Meanings.{meaning}
-use Rattle.tv_forest.proofs.tries.OfJobs.{limit-of}
-use Rattle.tv_forest.proofs.tries.OfParts.{own-parts}
+use Rattle.tv_forest.proofs.tries.Jobs.{limit-of}
+use Rattle.tv_forest.proofs.tries.Parts.{own-parts}
 use Rattle.tv_forest.proofs.laws.tries.jobs_are_of_steps.Goals as goal
 
 pub returns : goal.returns

@@ -1,6 +1,6 @@
-use Rattle.tv_forest.proofs.tries.OfJobs.{tried-job}
-use Rattle.tv_forest.proofs.tries.OfNext.{after-is, first-is}
-use Rattle.tv_forest.proofs.tries.OfTries.{others-keep}
+use Rattle.tv_forest.proofs.tries.Jobs.{tried-job}
+use Rattle.tv_forest.proofs.tries.Next.{after-is, first-is}
+use Rattle.tv_forest.proofs.tries.Tries.{others-keep}
 use Rattle.tv_forest.proofs.laws.tries.tries_follow.Goals as goal
 
 pub returns : goal.returns

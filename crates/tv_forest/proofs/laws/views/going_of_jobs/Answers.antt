@@ -1,4 +1,4 @@
-use Rattle.tv_forest.proofs.views.OfLaws.{ready-is_told, taken-is_running}
+use Rattle.tv_forest.proofs.views.LawLemmas.{ready-is_told, taken-is_running}
 use Rattle.tv_forest.proofs.laws.views.going_of_jobs.Goals as goal
 
 pub returns : goal.returns

@@ -1,4 +1,4 @@
-use Rattle.tv_forest.proofs.views.OfLaws.{instances-end_as_told, levels-settle_as_told, outputs-are_meant, outputs-are_results}
+use Rattle.tv_forest.proofs.views.LawLemmas.{instances-end_as_told, levels-settle_as_told, outputs-are_meant, outputs-are_results}
 use Rattle.tv_forest.proofs.laws.views.instance_in_the_run.Goals as goal
 
 pub returns : goal.returns

@@ -6,8 +6,8 @@ use Rattle.tv_binding.specs.declared.constants.Constants.{Constants}
 use Rattle.tv_binding.specs.Jobs.{job_found}
 use Rattle.tv_binding.specs.Sourced.{known_by as sourced_by}
 use Rattle.tv_frame.specs.declared.tables.Tables.{Tables}
-use Rattle.tv_frame.proofs.OfJobInputs.{binds-other, binds-same, call-counted, call-delivered, call-found, call-inputs, call-of, call-parts, starts-within, step-within}
-use Rattle.tv_frame.proofs.OfOuts.{sources-stand}
+use Rattle.tv_frame.proofs.JobInputs.{binds-other, binds-same, call-counted, call-delivered, call-found, call-inputs, call-of, call-parts, starts-within, step-within}
+use Rattle.tv_frame.proofs.OutLemmas.{sources-stand}
 use Rattle.tv_frame.proofs.frame.Frame.binds.Goals as goal
 
 pub ports_at-ports-requires : goal.ports_at-ports-requires

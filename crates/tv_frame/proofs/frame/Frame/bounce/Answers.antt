@@ -1,8 +1,8 @@
 use Rattle.std.proofs.Common.{[]}
 use Rattle.tv_cell.specs.PieceValues.{piece_values}
-use Rattle.tv_instance.specs.Events.{gave, took}
+use Rattle.tv_model.specs.instance.Events.{gave, took}
 use Rattle.tv_framing.specs.Frames.{with_event}
-use Rattle.tv_frame.proofs.OfForgetting.{goes-alone, taken-now}
+use Rattle.tv_frame.proofs.Forgetting.{goes-alone, taken-now}
 use Rattle.tv_frame.proofs.frame.Frame.bounce.Goals as goal
 
 pub take-requires : goal.take-requires

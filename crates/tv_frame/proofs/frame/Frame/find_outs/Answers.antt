@@ -1,5 +1,5 @@
 use Rattle.std.proofs.Common.{refl, sym, ◌∙◌, eqb-true, eq-eqb, true≢false}
-use Rattle.tv_frame.proofs.OfFound.{all-whole_now, ends-not, ends-now, keeps-found, sound-here, step-after, step-growing}
+use Rattle.tv_frame.proofs.Found.{all-whole_now, ends-not, ends-now, keeps-found, sound-here, step-after, step-growing}
 use Rattle.tv_frame.proofs.frame.Frame.find_outs.Goals.{then-whole_from-ne0-via-then-whole_from-ne0, then-whole_from-ne0-via-else-whole_from-ne0+then-not-is_last}
 use Rattle.tv_frame.proofs.frame.Frame.find_outs.Goals as goal
 

@@ -1,6 +1,6 @@
 use Rattle.std.proofs.Common.{true, None, Some, sym, ◌∙◌}
-use Rattle.tv_frame.proofs.OfJobs.{first-binds}
-use Rattle.tv_frame.proofs.OfReadyFirst.{first-so}
+use Rattle.tv_frame.proofs.JobLemmas.{first-binds}
+use Rattle.tv_frame.proofs.ReadyFirst.{first-so}
 use Rattle.tv_frame.proofs.frame.Frame.first_faulty.Goals as goal
 
 pub returns-in-Some-clause-first : goal.returns-in-Some-clause-first

@@ -1,4 +1,4 @@
-use Rattle.tv_frame.proofs.OfReady.{order-there, sound-there, steps-there}
+use Rattle.tv_frame.proofs.Ready.{order-there, sound-there, steps-there}
 use Rattle.tv_frame.proofs.frame.Frame.first_in_turn.Goals as goal
 
 pub first_ready-requires-clause-sound : goal.first_ready-requires-clause-sound

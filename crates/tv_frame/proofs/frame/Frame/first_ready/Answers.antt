@@ -1,7 +1,7 @@
 use Rattle.std.proofs.Common.{refl, subst, sym}
 use Rattle.tv_framing.specs.turns.FirstReady.{IsFirstReady}
 use Rattle.tv_frame.specs.Tables.{levels_in}
-use Rattle.tv_frame.proofs.OfReady.{first-after_one, first-of_all}
+use Rattle.tv_frame.proofs.Ready.{first-after_one, first-of_all}
 use Rattle.tv_frame.proofs.frame.Frame.first_ready.Goals as goal
 
 pub returns-in-Some-clause-first : goal.returns-in-Some-clause-first

@@ -1,6 +1,6 @@
 use Rattle.std.proofs.Common.{true}
-use Rattle.tv_frame.proofs.OfFaultyIdle.{faulty-idle}
-use Rattle.tv_frame.proofs.OfReadyFirst.{none-so}
+use Rattle.tv_frame.proofs.FaultyIdle.{faulty-idle}
+use Rattle.tv_frame.proofs.ReadyFirst.{none-so}
 use Rattle.tv_frame.proofs.frame.Frame.has_faulty.Goals as goal
 
 pub returns : goal.returns

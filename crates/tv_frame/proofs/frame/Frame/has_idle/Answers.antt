@@ -1,5 +1,5 @@
 use Rattle.std.proofs.Common.{◌<◌, subst, sym}
-use Rattle.tv_frame.proofs.OfReadySteps.{idle-so}
+use Rattle.tv_frame.proofs.ReadySteps.{idle-so}
 use Rattle.tv_frame.proofs.frame.Frame.has_idle.Goals as goal
 
 pub has_idle-requires : goal.has_idle-requires

@@ -1,8 +1,8 @@
 use Rattle.std.proofs.Common.{refl}
-use Rattle.tv_frame.proofs.OfHold.{held-where_ok}
-use Rattle.tv_frame.proofs.OfHoldAround.{is-around, levelled}
-use Rattle.tv_frame.proofs.OfHoldKept.{keeps-back}
-use Rattle.tv_frame.proofs.OfHoldTold.{can-hold_told}
+use Rattle.tv_frame.proofs.Hold.{held-where_ok}
+use Rattle.tv_frame.proofs.HoldAround.{is-around, levelled}
+use Rattle.tv_frame.proofs.HoldKept.{keeps-back}
+use Rattle.tv_frame.proofs.HoldTold.{can-hold_told}
 use Rattle.tv_frame.proofs.frame.Frame.hold.Goals as goal
 
 pub hold-requires-clause-around : goal.hold-requires-clause-around

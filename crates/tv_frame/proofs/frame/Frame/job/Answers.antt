@@ -1,4 +1,4 @@
-use Rattle.tv_frame.proofs.OfJobs.{job-holds, job-is}
+use Rattle.tv_frame.proofs.JobLemmas.{job-holds, job-is}
 use Rattle.tv_frame.proofs.frame.Frame.job.Goals as goal
 
 pub returns-clause-error : goal.returns-clause-error

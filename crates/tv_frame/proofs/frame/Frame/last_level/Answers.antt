@@ -1,5 +1,5 @@
 use Rattle.std.proofs.Common.{ap, refl, ◌-◌}
-use Rattle.tv_frame.proofs.OfLastLevels.{last-is_level}
+use Rattle.tv_frame.proofs.LastLevels.{last-is_level}
 use Rattle.tv_frame.proofs.frame.Frame.last_level.Goals as goal
 
 pub returns : goal.returns

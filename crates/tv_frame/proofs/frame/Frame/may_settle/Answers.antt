@@ -1,6 +1,6 @@
 use Rattle.std.proofs.Common.{◌<◌, ◌∙◌, subst, sym}
-use Rattle.tv_frame.proofs.OfReady.{sound-there, steps-there}
-use Rattle.tv_frame.proofs.OfReadySteps.{settles-so}
+use Rattle.tv_frame.proofs.Ready.{sound-there, steps-there}
+use Rattle.tv_frame.proofs.ReadySteps.{settles-so}
 use Rattle.tv_frame.proofs.frame.Frame.may_settle.Goals as goal
 
 pub may_settle-requires-clause-sound : goal.may_settle-requires-clause-sound

@@ -1,7 +1,7 @@
 use Rattle.std.proofs.Common.{arith, length, refl, ap, ◌∙◌}
 use Rattle.tv_binding.specs.Constants.{constants_view}
-use Rattle.tv_frame.proofs.OfFirstOuts.{outputs-counted}
-use Rattle.tv_frame.proofs.OfOuts.{can-come, coming-of, delivered-where_ok, found-so, many-there, outputs-few, outputs-same}
+use Rattle.tv_frame.proofs.FirstOuts.{outputs-counted}
+use Rattle.tv_frame.proofs.OutLemmas.{can-come, coming-of, delivered-where_ok, found-so, many-there, outputs-few, outputs-same}
 use Rattle.tv_frame.proofs.frame.Frame.outs_with.Goals as goal
 
 pub brought_by-brought-requires : goal.brought_by-brought-requires

@@ -5,7 +5,7 @@ use Rattle.std.specs.Option.{is_some}
 use Rattle.tv_binding.specs.Constants.{constant_of_port, constants_view}
 use Rattle.tv_binding.specs.declared.constants.Constants.{Constants}
 use Rattle.tv_frame.specs.declared.tables.Tables.{Tables}
-use Rattle.tv_frame.proofs.OfFaultingRead.{fault-read, feed-few, leaf-within, ok-weaken, port-within, ports-read, ports-within, start-is, step-small}
+use Rattle.tv_frame.proofs.FaultingRead.{fault-read, feed-few, leaf-within, ok-weaken, port-within, ports-read, ports-within, start-is, step-small}
 use Rattle.tv_frame.proofs.frame.Frame.passed_piece.Goals as goal
 
 pub index-requires-2 : goal.index-requires-2

@@ -1,9 +1,9 @@
 use Rattle.std.proofs.Common.{◌∙◌, ◌++◌, ◌∷◌, [], ap, eqb-true, eq-eqb, length, sym, true≢false}
 use Rattle.std.proofs.lemmas.List.{nil_from_length}
 use Rattle.tv_lemmas.proofs.Numbers.{not_zero-positive}
-use Rattle.tv_frame.proofs.OfFaultingPieces.{each-passed, left-so, of-fault, of-faults, ok-both, one-passed, one-sound, outputs-so}
-use Rattle.tv_frame.proofs.OfFaultingRead.{ok-weaken}
-use Rattle.tv_frame.proofs.OfKeeping.{step-there}
+use Rattle.tv_frame.proofs.FaultingPieces.{each-passed, left-so, of-fault, of-faults, ok-both, one-passed, one-sound, outputs-so}
+use Rattle.tv_frame.proofs.FaultingRead.{ok-weaken}
+use Rattle.tv_frame.proofs.Keeping.{step-there}
 use Rattle.tv_frame.proofs.frame.Frame.passed_pieces.Goals as goal
 
 pub returns-then-is_empty : goal.returns-then-is_empty

@@ -1,8 +1,8 @@
 use Rattle.tv_cell.specs.PieceValues.{piece_values}
 use Rattle.tv_intake.specs.Intaken.{waiting_things}
-use Rattle.tv_instance.specs.Events.{gave}
-use Rattle.tv_frame.proofs.OfEvents.{can-turn, firsts-read, other-trees, turn-ready}
-use Rattle.tv_frame.proofs.OfResults.{result-arrives, result-goes, result-room}
+use Rattle.tv_model.specs.instance.Events.{gave}
+use Rattle.tv_frame.proofs.EventLemmas.{can-turn, firsts-read, other-trees, turn-ready}
+use Rattle.tv_frame.proofs.Results.{result-arrives, result-goes, result-room}
 use Rattle.tv_frame.proofs.frame.Frame.result.Goals as goal
 
 pub first_tree-first-requires : goal.first_tree-first-requires

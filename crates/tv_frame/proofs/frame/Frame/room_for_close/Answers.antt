@@ -3,13 +3,13 @@ use Rattle.tv_parts.specs.Changes.{close_at}
 use Rattle.tv_outputs.specs.Changes.{AllCanClose}
 use Rattle.tv_outputs.specs.Known.{depths, known, needed, tree_in}
 use Rattle.tv_telling.specs.Views.{HasPiece}
-use Rattle.tv_instance.specs.Events.{closed}
+use Rattle.tv_model.specs.instance.Events.{closed}
 use Rattle.tv_framing.specs.feeds.Seen.{Happens}
 use Rattle.tv_frame.specs.Tables.{first_tree, trees_of}
-use Rattle.tv_frame.proofs.OfComing.{counted-closings}
-use Rattle.tv_frame.proofs.OfKeeping.{first-is, firsts-within, keeps-ahead, keeps-room, step-there, step-within}
-use Rattle.tv_frame.proofs.OfPutting.{depths-there}
-use Rattle.tv_frame.proofs.OfRooms.{close-all, close-coming, close-first_can, close-first_short, close-next, close-there, close-turns, counts-new, worked-ready}
+use Rattle.tv_frame.proofs.Coming.{counted-closings}
+use Rattle.tv_frame.proofs.Keeping.{first-is, firsts-within, keeps-ahead, keeps-room, step-there, step-within}
+use Rattle.tv_frame.proofs.Putting.{depths-there}
+use Rattle.tv_frame.proofs.RoomLemmas.{close-all, close-coming, close-first_can, close-first_short, close-next, close-there, close-turns, counts-new, worked-ready}
 use Rattle.tv_frame.proofs.frame.Frame.room_for_close.Goals as goal
 
 pub first_tree-first-requires : goal.first_tree-first-requires

@@ -1,12 +1,12 @@
 use Rattle.std.proofs.Common.{◌≡◌, ◌+◌, ◌≤◌, length, sym, subst, Some}
 use Rattle.tv_outputs.specs.Known.{depths, needed}
-use Rattle.tv_instance.specs.Events.{fault_set}
+use Rattle.tv_model.specs.instance.Events.{fault_set}
 use Rattle.tv_frame.specs.Calls.{ArePassed, Brings}
 use Rattle.tv_frame.specs.Tables.{first_tree, trees_of}
-use Rattle.tv_frame.proofs.OfBringing.{ready-brings}
-use Rattle.tv_frame.proofs.OfKeeping.{first-is, firsts-within, keeps-room, step-there, step-within}
-use Rattle.tv_frame.proofs.OfPassing.{keeps-aside, ready-aside}
-use Rattle.tv_frame.proofs.OfPutting.{depths-there}
+use Rattle.tv_frame.proofs.Bringing.{ready-brings}
+use Rattle.tv_frame.proofs.Keeping.{first-is, firsts-within, keeps-room, step-there, step-within}
+use Rattle.tv_frame.proofs.Passing.{keeps-aside, ready-aside}
+use Rattle.tv_frame.proofs.Putting.{depths-there}
 use Rattle.tv_frame.proofs.frame.Frame.room_for_fault.Goals as goal
 
 pub first_tree-first-requires : goal.first_tree-first-requires

@@ -3,12 +3,12 @@ use Rattle.tv_cell.specs.PieceValues.{piece_values}
 use Rattle.tv_cell.specs.Soundness.{AreSound}
 use Rattle.tv_outputs.specs.Changes.{AllCanArrive}
 use Rattle.tv_outputs.specs.Known.{depths, known, needed}
-use Rattle.tv_instance.specs.Events.{gave}
+use Rattle.tv_model.specs.instance.Events.{gave}
 use Rattle.tv_frame.specs.Tables.{first_tree, trees_of}
-use Rattle.tv_frame.proofs.OfComing.{counted-arrivals}
-use Rattle.tv_frame.proofs.OfKeeping.{first-is, firsts-within, keeps-ahead, keeps-room, step-there, step-within}
-use Rattle.tv_frame.proofs.OfPutting.{depths-there}
-use Rattle.tv_frame.proofs.OfRooms.{counts-new, result-arrives, result-coming, result-first_can, result-first_short, result-marked, result-next, result-there, result-turns, worked-ready}
+use Rattle.tv_frame.proofs.Coming.{counted-arrivals}
+use Rattle.tv_frame.proofs.Keeping.{first-is, firsts-within, keeps-ahead, keeps-room, step-there, step-within}
+use Rattle.tv_frame.proofs.Putting.{depths-there}
+use Rattle.tv_frame.proofs.RoomLemmas.{counts-new, result-arrives, result-coming, result-first_can, result-first_short, result-marked, result-next, result-there, result-turns, worked-ready}
 use Rattle.tv_frame.proofs.frame.Frame.room_for_result.Goals as goal
 
 pub first_tree-first-requires : goal.first_tree-first-requires

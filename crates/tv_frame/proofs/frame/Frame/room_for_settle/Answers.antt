@@ -1,10 +1,10 @@
 use Rattle.std.proofs.Common.{◌-◌, refl, ap, sym, ◌∙◌, Some}
 use Rattle.tv_matching.specs.Matchers.{fault_at, job_at, list_at}
 use Rattle.tv_intake.specs.Intaken.{matcher_at, waiting_things}
-use Rattle.tv_instance.specs.Events.{closed, fault_set}
+use Rattle.tv_model.specs.instance.Events.{closed, fault_set}
 use Rattle.tv_frame.specs.Kept.{followed_by}
-use Rattle.tv_frame.proofs.OfKeeping.{keeps-ahead}
-use Rattle.tv_frame.proofs.OfWaiting.{closed-thing, job-thing, jobs-not_wait, keeps-same, last-thing, lists-settle, none-settles, passed-thing, settles-same, waiting-at}
+use Rattle.tv_frame.proofs.Keeping.{keeps-ahead}
+use Rattle.tv_frame.proofs.Waiting.{closed-thing, job-thing, jobs-not_wait, keeps-same, last-thing, lists-settle, none-settles, passed-thing, settles-same, waiting-at}
 use Rattle.tv_frame.proofs.frame.Frame.room_for_settle.Goals as goal
 use Rattle.tv_frame.proofs.frame.Frame.room_for_settle.Goals.{in-Closed+in_ok-jobs-in-Closed, in-Passed+in_ok-jobs-in-Passed}
 

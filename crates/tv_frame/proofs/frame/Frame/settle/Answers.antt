@@ -1,7 +1,7 @@
 use Rattle.std.proofs.Common.{refl, sym, subst, ◌∙◌}
 use Rattle.tv_intake.specs.Intaken.{AreIntaken, HasRoom}
-use Rattle.tv_frame.proofs.OfEvents.{show-ready, turn-ready}
-use Rattle.tv_frame.proofs.OfSettling.{fault-arrives, fault-goes, fault-marked, fault-room, fault-sound, left, list-closes, list-goes, list-room, prepared-then, settle-reads, settle-turns}
+use Rattle.tv_frame.proofs.EventLemmas.{show-ready, turn-ready}
+use Rattle.tv_frame.proofs.Settling.{fault-arrives, fault-goes, fault-marked, fault-room, fault-sound, left, list-closes, list-goes, list-room, prepared-then, settle-reads, settle-turns}
 use Rattle.tv_frame.proofs.frame.Frame.settle.Goals as goal
 
 pub first_tree-first-requires : goal.first_tree-first-requires

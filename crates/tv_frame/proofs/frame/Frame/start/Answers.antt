@@ -3,10 +3,10 @@ use Rattle.std.proofs.Common.{ap, subst, sym, ◌∙◌}
 use Rattle.tv_cell.specs.PieceValues.{piece_values}
 use Rattle.tv_cell.specs.Soundness.{AreSound}
 use Rattle.tv_pool.specs.Pool.{IsLive, number_of, regions_with}
-use Rattle.tv_nodes.specs.Calls.{KeepsRegions}
-use Rattle.tv_nodes.proofs.Counts.{count-begun}
+use Rattle.tv_stream.specs.nodes.Calls.{KeepsRegions}
+use Rattle.tv_stream.proofs.Counts.{count-begun}
 use Rattle.tv_frame.specs.Calls.{CanStart}
-use Rattle.tv_frame.proofs.OfRegions.{begun-keeps, begun-live, released-same}
+use Rattle.tv_frame.proofs.Regions.{begun-keeps, begun-live, released-same}
 use Rattle.tv_frame.proofs.frame.Frame.start.Goals as goal
 
 pub start_trees-requires-clause-can : goal.start_trees-requires-clause-can

@@ -4,7 +4,7 @@ use Rattle.tv_value.specs.Values.{holds_fault}
 use Rattle.tv_flow.specs.Views.{flow_view}
 use Rattle.tv_cell.specs.PieceValues.{piece_values}
 use Rattle.tv_frame.specs.Started.{HaveBegun, at_start, given_values}
-use Rattle.tv_frame.proofs.OfFirstRooms.{endings-of}
+use Rattle.tv_frame.proofs.FirstRooms.{endings-of}
 use Rattle.tv_frame.proofs.frame.Frame.start_parts.Goals as goal
 
 pub returns-clause-parts : goal.returns-clause-parts

@@ -4,7 +4,7 @@ use Rattle.tv_parts.specs.Partials.{wanting}
 use Rattle.tv_cell.specs.PieceValues.{piece_values}
 use Rattle.tv_outputs.specs.Kept.{StandBeside}
 use Rattle.tv_frame.specs.Started.{AreFirstOuts}
-use Rattle.tv_frame.proofs.OfStarted.{starts}
+use Rattle.tv_frame.proofs.Started.{starts}
 use Rattle.tv_frame.proofs.frame.Frame.start_trees.Goals as goal
 
 pub returns-clause-ok : goal.returns-clause-ok

@@ -1,6 +1,6 @@
 use Rattle.std.proofs.Common.{arith}
-use Rattle.tv_frame.proofs.OfReadyStays.{still-ready}
-use Rattle.tv_frame.proofs.OfTaking.{idle-there, number-below, taken-keeps}
+use Rattle.tv_frame.proofs.ReadyStays.{still-ready}
+use Rattle.tv_frame.proofs.Taking.{idle-there, number-below, taken-keeps}
 use Rattle.tv_frame.proofs.frame.Frame.take.Goals as goal
 
 pub overflow_cast-number : goal.overflow_cast-number

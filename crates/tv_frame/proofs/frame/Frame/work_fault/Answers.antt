@@ -2,13 +2,13 @@ use Rattle.std.specs.Prelude.{take}
 use Rattle.std.proofs.Common.{◌≡◌, ◌==◌, ◌≤◌, arith, length, refl, ap, sym, subst, ◌∙◌, Some}
 use Rattle.tv_outputs.specs.Known.{known}
 use Rattle.tv_telling.specs.Views.{HasPiece}
-use Rattle.tv_instance.specs.Events.{fault_set}
+use Rattle.tv_model.specs.instance.Events.{fault_set}
 use Rattle.tv_framing.specs.feeds.Seen.{Happens}
-use Rattle.tv_frame.proofs.OfComing.{counted-arrivals}
-use Rattle.tv_frame.proofs.OfKeeping.{first-is, firsts-within, keeps-ahead, step-there, step-within}
-use Rattle.tv_frame.proofs.OfPassing.{fault-arrives, fault-coming, fault-counted, fault-first_can, fault-first_short, fault-next, fault-there, fault-turns, fault-values}
-use Rattle.tv_frame.proofs.OfPutting.{outputs-few}
-use Rattle.tv_frame.proofs.OfRooms.{worked-ready}
+use Rattle.tv_frame.proofs.Coming.{counted-arrivals}
+use Rattle.tv_frame.proofs.Keeping.{first-is, firsts-within, keeps-ahead, step-there, step-within}
+use Rattle.tv_frame.proofs.Passing.{fault-arrives, fault-coming, fault-counted, fault-first_can, fault-first_short, fault-next, fault-there, fault-turns, fault-values}
+use Rattle.tv_frame.proofs.Putting.{outputs-few}
+use Rattle.tv_frame.proofs.RoomLemmas.{worked-ready}
 use Rattle.tv_frame.proofs.frame.Frame.work_fault.Goals as goal
 
 pub first_tree-first-requires : goal.first_tree-first-requires

@@ -1,4 +1,4 @@
-use Rattle.tv_framing.proofs.engine.OfTold.{events-tell, feeds-whole, wires-tell}
+use Rattle.tv_framing.proofs.engine.Told.{events-tell, feeds-whole, wires-tell}
 use Rattle.tv_framing.proofs.laws.engine.along_wires.Goals as goal
 
 pub returns : goal.returns

@@ -1,4 +1,4 @@
-use Rattle.tv_framing.proofs.engine.OfTrees.{events-put, trees-turn, trees-whole}
+use Rattle.tv_framing.proofs.engine.Trees.{events-put, trees-turn, trees-whole}
 use Rattle.tv_framing.proofs.laws.engine.turning_trees.Goals as goal
 
 pub returns : goal.returns

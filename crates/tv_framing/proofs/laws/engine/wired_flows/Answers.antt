@@ -1,4 +1,4 @@
-use Rattle.tv_framing.proofs.engine.OfAccepted.{accepted-wired}
+use Rattle.tv_framing.proofs.engine.Accepted.{accepted-wired}
 use Rattle.tv_framing.proofs.laws.engine.wired_flows.Goals as goal
 
 pub returns : goal.returns

@@ -1,4 +1,4 @@
-use Rattle.tv_framing.proofs.faults.OfNumbers.{faults-are_by_numbers, trees-are_by_events, trees-are_by_numbers, whole_ports-are_true}
+use Rattle.tv_framing.proofs.faults.Numbers.{faults-are_by_numbers, trees-are_by_events, trees-are_by_numbers, whole_ports-are_true}
 use Rattle.tv_framing.proofs.laws.faults.findings.Goals as goal
 
 pub returns : goal.returns

@@ -1,4 +1,4 @@
-use Rattle.tv_framing.proofs.faults.OfLaws.{jobs-hold_what_is_said}
+use Rattle.tv_framing.proofs.faults.LawLemmas.{jobs-hold_what_is_said}
 use Rattle.tv_framing.proofs.laws.faults.jobs.Goals as goal
 
 pub returns : goal.returns

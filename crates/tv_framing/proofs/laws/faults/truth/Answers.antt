@@ -1,4 +1,4 @@
-use Rattle.tv_framing.proofs.faults.OfLaws.{start-is_true, truth-goes_on, truth-stays}
+use Rattle.tv_framing.proofs.faults.LawLemmas.{start-is_true, truth-goes_on, truth-stays}
 use Rattle.tv_framing.proofs.laws.faults.truth.Goals as goal
 
 pub returns : goal.returns

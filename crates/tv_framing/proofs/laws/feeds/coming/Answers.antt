@@ -1,4 +1,4 @@
-use Rattle.tv_framing.proofs.feeds.OfComing.{next-makes_frame, taking-makes_frame}
+use Rattle.tv_framing.proofs.feeds.Coming.{next-makes_frame, taking-makes_frame}
 use Rattle.tv_framing.proofs.laws.feeds.coming.Goals as goal
 
 pub returns : goal.returns

@@ -1,4 +1,4 @@
-use Rattle.tv_framing.proofs.feeds.OfPorts.{ports-are_fed}
+use Rattle.tv_framing.proofs.feeds.Ports.{ports-are_fed}
 use Rattle.tv_framing.proofs.laws.feeds.feeding.Goals as goal
 
 pub returns : goal.returns

@@ -1,6 +1,6 @@
-use Rattle.tv_framing.proofs.feeds.OfSeen.{events-are_seen}
-use Rattle.tv_framing.proofs.feeds.OfTold.{told-goes_on}
-use Rattle.tv_framing.proofs.feeds.OfUntouched.{untouched-stay_told}
+use Rattle.tv_framing.proofs.feeds.Seen.{events-are_seen}
+use Rattle.tv_framing.proofs.feeds.Told.{told-goes_on}
+use Rattle.tv_framing.proofs.feeds.Untouched.{untouched-stay_told}
 use Rattle.tv_framing.proofs.laws.feeds.telling.Goals as goal
 
 pub returns : goal.returns

@@ -1,4 +1,4 @@
-use Rattle.tv_framing.proofs.feeds.OfComing.{events-are_in_trees, trees-are_whole_with_steps, trees-go_on}
+use Rattle.tv_framing.proofs.feeds.Coming.{events-are_in_trees, trees-are_whole_with_steps, trees-go_on}
 use Rattle.tv_framing.proofs.laws.feeds.trees.Goals as goal
 
 pub returns : goal.returns

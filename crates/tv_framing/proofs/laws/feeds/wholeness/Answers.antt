@@ -1,4 +1,4 @@
-use Rattle.tv_framing.proofs.feeds.OfWholeSteps.{endings-go_on, endings-start, marks-are_whole_steps, taking-ends_nothing, whole-steps_go_on}
+use Rattle.tv_framing.proofs.feeds.WholeSteps.{endings-go_on, endings-start, marks-are_whole_steps, taking-ends_nothing, whole-steps_go_on}
 use Rattle.tv_framing.proofs.laws.feeds.wholeness.Goals as goal
 
 pub returns : goal.returns

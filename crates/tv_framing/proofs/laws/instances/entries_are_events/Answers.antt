@@ -1,4 +1,4 @@
-use Rattle.tv_framing.proofs.instances.OfHistory.{entries-are_events, others-stay_settled, recalled-is_none}
+use Rattle.tv_framing.proofs.instances.History.{entries-are_events, others-stay_settled, recalled-is_none}
 use Rattle.tv_framing.proofs.laws.instances.entries_are_events.Goals as goal
 
 pub returns : goal.returns

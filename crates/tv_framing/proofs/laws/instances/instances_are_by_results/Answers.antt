@@ -1,5 +1,5 @@
-use Rattle.tv_framing.proofs.instances.OfMeant.{own_results-are_of_depth}
-use Rattle.tv_framing.proofs.instances.OfResults.{steps-by_results}
+use Rattle.tv_framing.proofs.instances.Meant.{own_results-are_of_depth}
+use Rattle.tv_framing.proofs.instances.Results.{steps-by_results}
 use Rattle.tv_framing.proofs.laws.instances.instances_are_by_results.Goals as goal
 
 pub returns : goal.returns

@@ -1,5 +1,5 @@
-use Rattle.tv_framing.proofs.instances.OfLaws.{nodes-are_own}
-use Rattle.tv_framing.proofs.instances.OfLevels.{steps-have_their_levels}
+use Rattle.tv_framing.proofs.instances.LawLemmas.{nodes-are_own}
+use Rattle.tv_framing.proofs.instances.Levels.{steps-have_their_levels}
 use Rattle.tv_framing.proofs.laws.instances.steps_of_instances.Goals as goal
 
 pub returns : goal.returns

@@ -1,4 +1,4 @@
-use Rattle.tv_framing.proofs.keeping.OfLaws.{results-may_come, settlements-may_come}
+use Rattle.tv_framing.proofs.keeping.LawLemmas.{results-may_come, settlements-may_come}
 use Rattle.tv_framing.proofs.laws.keeping.coming.Goals as goal
 
 pub returns : goal.returns

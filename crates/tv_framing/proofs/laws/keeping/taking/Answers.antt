@@ -1,4 +1,4 @@
-use Rattle.tv_framing.proofs.keeping.OfLaws.{taking-tells_nothing}
+use Rattle.tv_framing.proofs.keeping.LawLemmas.{taking-tells_nothing}
 use Rattle.tv_framing.proofs.laws.keeping.taking.Goals as goal
 
 pub returns : goal.returns

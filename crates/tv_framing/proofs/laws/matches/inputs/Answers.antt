@@ -1,4 +1,4 @@
-use Rattle.tv_framing.proofs.matches.OfLaws.{jobs-bind_parts, parts-are_inputs}
+use Rattle.tv_framing.proofs.matches.LawLemmas.{jobs-bind_parts, parts-are_inputs}
 use Rattle.tv_framing.proofs.laws.matches.inputs.Goals as goal
 
 pub returns : goal.returns

@@ -1,4 +1,4 @@
-use Rattle.tv_framing.proofs.matches.OfLaws.{flows-stay, frames-start, given-goes_on, known_jobs-are_matched, new_jobs-are_brought}
+use Rattle.tv_framing.proofs.matches.LawLemmas.{flows-stay, frames-start, given-goes_on, known_jobs-are_matched, new_jobs-are_brought}
 use Rattle.tv_framing.proofs.laws.matches.jobs.Goals as goal
 
 pub returns : goal.returns

@@ -1,4 +1,4 @@
-use Rattle.tv_framing.proofs.matches.OfLaws.{outcomes-are_known, passed_faults-stand}
+use Rattle.tv_framing.proofs.matches.LawLemmas.{outcomes-are_known, passed_faults-stand}
 use Rattle.tv_framing.proofs.laws.matches.outcomes.Goals as goal
 
 pub returns : goal.returns

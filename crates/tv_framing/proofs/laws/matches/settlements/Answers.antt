@@ -1,4 +1,4 @@
-use Rattle.tv_framing.proofs.matches.OfLaws.{nothing-settles, waiting_faults-can_settle, waiting_lists-can_settle}
+use Rattle.tv_framing.proofs.matches.LawLemmas.{nothing-settles, waiting_faults-can_settle, waiting_lists-can_settle}
 use Rattle.tv_framing.proofs.laws.matches.settlements.Goals as goal
 
 pub returns : goal.returns

@@ -1,4 +1,4 @@
-use Rattle.tv_framing.proofs.matches.OfLaws.{next-can_be_told, outcomes-come_in_any_order, steps-told_in_any_order}
+use Rattle.tv_framing.proofs.matches.LawLemmas.{next-can_be_told, outcomes-come_in_any_order, steps-told_in_any_order}
 use Rattle.tv_framing.proofs.laws.matches.tellings.Goals as goal
 
 pub returns : goal.returns

@@ -1,4 +1,4 @@
-use Rattle.tv_framing.proofs.matches.OfLaws.{all-wait_at_first, taking-leaves_waiting, waiting-goes_on, waiting-in_any_order}
+use Rattle.tv_framing.proofs.matches.LawLemmas.{all-wait_at_first, taking-leaves_waiting, waiting-goes_on, waiting-in_any_order}
 use Rattle.tv_framing.proofs.laws.matches.waiting.Goals as goal
 
 pub returns : goal.returns

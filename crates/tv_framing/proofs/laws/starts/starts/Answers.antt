@@ -1,4 +1,4 @@
-use Rattle.tv_framing.proofs.starts.OfLaws.{start-can_be_told, start-is_told}
+use Rattle.tv_framing.proofs.starts.LawLemmas.{start-can_be_told, start-is_told}
 use Rattle.tv_framing.proofs.laws.starts.starts.Goals as goal
 
 pub returns : goal.returns

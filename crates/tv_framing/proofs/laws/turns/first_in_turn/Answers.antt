@@ -1,5 +1,5 @@
-use Rattle.tv_framing.proofs.turns.OfOrders.{order-of-steps}
-use Rattle.tv_framing.proofs.turns.OfFrames.{first-is-ready}
+use Rattle.tv_framing.proofs.turns.Orders.{order-of-steps}
+use Rattle.tv_framing.proofs.turns.Frames.{first-is-ready}
 use Rattle.tv_framing.proofs.laws.turns.first_in_turn.Goals as goal
 
 pub returns : goal.returns

@@ -1,4 +1,4 @@
-use Rattle.tv_framing.proofs.turns.OfChanges.{none-first, still, with-one-more, without-one}
+use Rattle.tv_framing.proofs.turns.Changes.{none-first, still, with-one-more, without-one}
 use Rattle.tv_framing.proofs.laws.turns.idle_changes.Goals as goal
 
 pub returns : goal.returns

@@ -1,4 +1,4 @@
-use Rattle.tv_framing.proofs.ways.OfLengths.{one-length-turns}
+use Rattle.tv_framing.proofs.ways.Lengths.{one-length-turns}
 use Rattle.tv_framing.proofs.laws.ways.lengths.Goals as goal
 
 pub returns : goal.returns

@@ -1,4 +1,4 @@
-use Rattle.tv_framing.proofs.ways.OfWays.{ports-by_ways, values-alike, ways-alike}
+use Rattle.tv_framing.proofs.ways.Ways.{ports-by_ways, values-alike, ways-alike}
 use Rattle.tv_framing.proofs.laws.ways.tellings.Goals as goal
 
 pub returns : goal.returns

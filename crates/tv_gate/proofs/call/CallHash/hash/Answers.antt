@@ -1,7 +1,7 @@
 use Rattle.std.proofs.Common.{ap, sym, rules, ◌≡◌, fold, ◌∙◌, refl}
 use Rattle.tv_value.specs.Views.{items_view}
 use Rattle.tv_value.specs.Writes.{values_writes}
-use Rattle.tv_value.proofs.OfWrites.{trees_of-items}
+use Rattle.tv_value.proofs.Writes.{trees_of-items}
 use Rattle.tv_gate.proofs.call.CallHash.hash.Goals as goal
 
 pub returns : goal.returns

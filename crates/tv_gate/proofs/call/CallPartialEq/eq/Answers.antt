@@ -2,7 +2,7 @@ use Rattle.std.proofs.Common.{sym, ◌∙◌, eq-eqb}
 use Rattle.std.specs.Prelude.{◌&&◌}
 use Rattle.tv_value.specs.Views.{items_view, values_view}
 use Rattle.tv_value.specs.Sameness.{same_values}
-use Rattle.tv_value.proofs.OfSameness.{same_trees-items}
+use Rattle.tv_value.proofs.Sameness.{same_trees-items}
 use Rattle.tv_gate.proofs.call.CallPartialEq.eq.Goals as goal
 
 pub returns-then-eq : goal.returns-then-eq

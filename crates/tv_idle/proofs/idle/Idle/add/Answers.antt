@@ -2,7 +2,7 @@ use Rattle.std.proofs.Common.{◌≡◌, ◌+◌, ◌<◌, ap, sym, subst, ◌�
 use Rattle.tv_idle.specs.Idles.{Idles, of_step, with_idle}
 use Rattle.tv_idle.specs.Kept.{faulty_in, is_gone, queues_view}
 use Rattle.tv_idle.proofs.AllSteps.{many, map-longer, put-kept, put-seen}
-use Rattle.tv_idle.proofs.OfFaulty.{more-by, one-more}
+use Rattle.tv_idle.proofs.Faulty.{more-by, one-more}
 use Rattle.tv_idle.proofs.idle.Idle.add.Goals as goal
 
 pub invariant_of-self : goal.invariant_of-self

@@ -1,7 +1,7 @@
 use Rattle.std.proofs.Common.{ap, sym, subst, ◌∙◌, ◌++◌, ◌∷◌, [], length}
 use Rattle.tv_idle.specs.Kept.{AreAllKept, faulty_in, is_gone}
 use Rattle.tv_idle.proofs.AllSteps.{added-kept}
-use Rattle.tv_idle.proofs.OfFaulty.{more-faulty}
+use Rattle.tv_idle.proofs.Faulty.{more-faulty}
 use Rattle.tv_idle.proofs.idle.Idle.add_step.Goals as goal
 
 pub invariant_of-self-2 : goal.invariant_of-self-2

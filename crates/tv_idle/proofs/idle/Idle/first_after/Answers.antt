@@ -1,5 +1,5 @@
 use Rattle.std.proofs.Common.{◌<◌, ap, sym, subst, ◌∙◌, length}
-use Rattle.tv_ready.specs.Sought.{sought}
+use Rattle.tv_idle.specs.Sought.{sought}
 use Rattle.tv_idle.specs.declared.queues.Queues.{Queues}
 use Rattle.tv_idle.specs.Idles.{Idles, first_after, first_of, of_step, standing_after}
 use Rattle.tv_idle.specs.Kept.{is_gone, live, no_queues, queues_of, queues_view}

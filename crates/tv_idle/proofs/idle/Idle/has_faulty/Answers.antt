@@ -3,7 +3,7 @@ use Rattle.std.proofs.Common.{ap, sym, ◌∙◌}
 use Rattle.tv_idle.specs.Idles.{Idles, StepIdle, first_number, of_step}
 use Rattle.tv_idle.specs.Kept.{faulty_in, is_gone, queues_of}
 use Rattle.tv_idle.proofs.AllSteps.{of-shown}
-use Rattle.tv_idle.proofs.OfFaulty.{none-live, none-of, none-stands, some-counted, some-first}
+use Rattle.tv_idle.proofs.Faulty.{none-live, none-of, none-stands, some-counted, some-first}
 use Rattle.tv_idle.proofs.idle.Idle.has_faulty.Goals as goal
 
 pub returns : goal.returns

@@ -4,7 +4,7 @@ use Rattle.tv_idle.specs.declared.queues.Queues.{Queues}
 use Rattle.tv_idle.specs.Idles.{Idles, is_idle_at, of_step, without}
 use Rattle.tv_idle.specs.Kept.{AreAllKept, IsTrimmed, is_gone, queues_of, stands_at}
 use Rattle.tv_idle.proofs.AllSteps.{idle-stands, removed-kept, removed-steps, set-mark, stands-below, stands-within, there-trimmed}
-use Rattle.tv_idle.proofs.OfFaulty.{fewer-faulty}
+use Rattle.tv_idle.proofs.Faulty.{fewer-faulty}
 use Rattle.tv_idle.proofs.idle.Idle.remove.Goals as goal
 
 pub index_mut-requires : goal.index_mut-requires

@@ -4,7 +4,7 @@ use Rattle.tv_idle.specs.declared.queues.Queues.{Queues}
 use Rattle.tv_idle.specs.Idles.{Idles, StepIdle, of_step, with_rooms_of}
 use Rattle.tv_idle.specs.Kept.{is_gone, queues_view}
 use Rattle.tv_idle.proofs.AllSteps.{map-longer, same-kept, same-step, same-steps, there-same}
-use Rattle.tv_idle.proofs.OfFaulty.{same-faulty}
+use Rattle.tv_idle.proofs.Faulty.{same-faulty}
 use Rattle.tv_idle.proofs.idle.Idle.reserve.Goals as goal
 
 pub invariant_of-self : goal.invariant_of-self

@@ -1,6 +1,6 @@
 use Rattle.std.proofs.Common.{◌≤◌, sym, subst, arith, length}
 use Rattle.tv_idle.specs.Kept.{is_gone}
-use Rattle.tv_idle.proofs.OfFaulty.{no-longer}
+use Rattle.tv_idle.proofs.Faulty.{no-longer}
 use Rattle.tv_idle.proofs.queues.Queues.trim.Goals as goal
 
 pub overflow_sub-result : goal.overflow_sub-result

@@ -3,7 +3,7 @@ use Rattle.std.proofs.lemmas.Result.{on_ok_weaker}
 use Rattle.tv_value.specs.Views.{strategy_view}
 use Rattle.tv_match.specs.Seen.{bound_telling, matching}
 use Rattle.tv_intake.specs.Intaken.{IsToldAt}
-use Rattle.tv_intake.proofs.OfIntakes.{can-tell_bound, names-leaf, told-one}
+use Rattle.tv_intake.proofs.IntakeLemmas.{can-tell_bound, names-leaf, told-one}
 use Rattle.tv_intake.proofs.intakes.Intakes.add_bound.Goals as goal
 
 pub tell_bound-requires : goal.tell_bound-requires

@@ -3,7 +3,7 @@ use Rattle.std.proofs.lemmas.Option.{slice_get_read}
 use Rattle.tv_match.specs.Ahead.{in_order_ahead}
 use Rattle.tv_intake.specs.Sorting.{jobs_among}
 use Rattle.tv_intake.specs.Intaken.{IsSoundAt}
-use Rattle.tv_intake.proofs.OfIntakes.{ahead-longer, brings-there}
+use Rattle.tv_intake.proofs.IntakeLemmas.{ahead-longer, brings-there}
 use Rattle.tv_intake.proofs.intakes.Intakes.brings.Goals as goal
 
 pub shown-shown-requires : goal.shown-shown-requires

@@ -1,5 +1,5 @@
 use Rattle.std.proofs.Common.{ap, ◌∙◌}
-use Rattle.tv_intake.proofs.OfIntakes.{none-sorted}
+use Rattle.tv_intake.proofs.IntakeLemmas.{none-sorted}
 use Rattle.tv_intake.proofs.intakes.Intakes.clear.Goals as goal
 
 pub returns-clause-sound : goal.returns-clause-sound

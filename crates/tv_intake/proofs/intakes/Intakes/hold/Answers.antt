@@ -5,7 +5,7 @@ use Rattle.tv_match.specs.Ahead.{in_order_ahead}
 use Rattle.tv_match.specs.Seen.{in_order}
 use Rattle.tv_intake.specs.Sorting.{brought}
 use Rattle.tv_intake.specs.Intaken.{CanHold, HoldsNone, HoldsThese}
-use Rattle.tv_intake.proofs.OfIntakes.{ahead-longer, brings-there, can-within, get-other, jobs-same, placed-there, set-same, set-sound, sorted-same, waiting-same}
+use Rattle.tv_intake.proofs.IntakeLemmas.{ahead-longer, brings-there, can-within, get-other, jobs-same, placed-there, set-same, set-sound, sorted-same, waiting-same}
 use Rattle.tv_intake.proofs.intakes.Intakes.hold.Goals as goal
 
 counted : {E : Type 0} (r : Result ℕ E) (a b d : ℕ) → a ≡ b + d → (s : ℕ) → s ≡ d → (m : ℕ) → m ≡ b → IfOk r (λ n. a ≡ m + n) → IfOk r (λ n. n ≡ s)

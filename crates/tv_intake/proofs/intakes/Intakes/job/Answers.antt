@@ -3,7 +3,7 @@ use Rattle.std.proofs.lemmas.List.{length-map}
 use Rattle.tv_lemmas.proofs.Lists.{get-map_read}
 use Rattle.tv_intake.specs.declared.found.Found.{Found}
 use Rattle.tv_intake.specs.Intaken.{followed_in, placed, thing_in}
-use Rattle.tv_intake.proofs.OfIntakes.{each-get, item-there, jobs-there, faulty-there, place-kept, sound-there, step-within, thing-is}
+use Rattle.tv_intake.proofs.IntakeLemmas.{each-get, item-there, jobs-there, faulty-there, place-kept, sound-there, step-within, thing-is}
 use Rattle.tv_intake.proofs.intakes.Intakes.job.Goals as goal
 
 pub index-requires : goal.index-requires

@@ -1,4 +1,4 @@
-use Rattle.tv_intake.proofs.OfIntakes.{none-sorted}
+use Rattle.tv_intake.proofs.IntakeLemmas.{none-sorted}
 use Rattle.tv_intake.proofs.intakes.Intakes.new.Goals as goal
 
 pub returns-clause-sound : goal.returns-clause-sound

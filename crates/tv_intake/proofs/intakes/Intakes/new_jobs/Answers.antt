@@ -4,7 +4,7 @@ use Rattle.std.proofs.lemmas.Option.{slice_get_read}
 use Rattle.tv_match.specs.Ahead.{in_order_ahead}
 use Rattle.tv_intake.specs.Sorting.{faulty_ahead, job_places}
 use Rattle.tv_intake.specs.Intaken.{CanShow, IsSoundAt, faulty_ahead_at}
-use Rattle.tv_intake.proofs.OfIntakes.{brings-there, shown-within}
+use Rattle.tv_intake.proofs.IntakeLemmas.{brings-there, shown-within}
 use Rattle.tv_intake.proofs.intakes.Intakes.new_jobs.Goals as goal
 
 pub index-requires : goal.index-requires

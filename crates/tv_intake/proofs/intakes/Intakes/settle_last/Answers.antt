@@ -1,6 +1,6 @@
 use Rattle.std.specs.Prelude.{option_to_list}
 use Rattle.std.proofs.Common.{arith}
-use Rattle.tv_intake.proofs.OfIntakes.{fewer-wait}
+use Rattle.tv_intake.proofs.IntakeLemmas.{fewer-wait}
 use Rattle.tv_intake.proofs.intakes.Intakes.settle_last.Goals as goal
 
 pub returns-clause-sound : goal.returns-clause-sound

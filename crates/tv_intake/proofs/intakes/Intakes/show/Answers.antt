@@ -5,7 +5,7 @@ use Rattle.tv_match.specs.Ahead.{in_order_ahead}
 use Rattle.tv_match.specs.Seen.{IsSound, in_order}
 use Rattle.tv_intake.specs.Sorting.{brought, found_jobs, found_others, job_places, others_among}
 use Rattle.tv_intake.specs.Intaken.{AreSorted, IsSoundAt, followed_in, placed, thing_in}
-use Rattle.tv_intake.proofs.OfIntakes.{ahead-longer, ahead-parts, brings-there, jobs-grow, placed-there, set-grown, set-sound, shown-within, sorted-grows, waiting-grows, new-found, new-others_found}
+use Rattle.tv_intake.proofs.IntakeLemmas.{ahead-longer, ahead-parts, brings-there, jobs-grow, placed-there, set-grown, set-sound, shown-within, sorted-grows, waiting-grows, new-found, new-others_found}
 use Rattle.tv_intake.proofs.intakes.Intakes.show.Goals as goal
 
 pub shown-shown-requires : goal.shown-shown-requires

@@ -5,7 +5,7 @@ use Rattle.tv_match.specs.Seen.{in_order}
 use Rattle.tv_match.proofs.AllMade.{none-ahead}
 use Rattle.tv_intake.specs.Sorting.{found_jobs, found_others}
 use Rattle.tv_intake.specs.Intaken.{AreSorted, followed_in, placed, thing_in}
-use Rattle.tv_intake.proofs.OfIntakes.{end-grown, end-sound, first-found, first-others_found, jobs-grow, sorted-grows, waiting-grows}
+use Rattle.tv_intake.proofs.IntakeLemmas.{end-grown, end-sound, first-found, first-others_found, jobs-grow, sorted-grows, waiting-grows}
 use Rattle.tv_intake.proofs.intakes.Intakes.take_in.Goals as goal
 
 pub returns-clause-jobs : goal.returns-clause-jobs

@@ -3,7 +3,7 @@ use Rattle.tv_value.specs.Nested.{items}
 use Rattle.tv_value.specs.Values as spec
 use Rattle.tv_value.specs.Views.{view, values_view}
 use Rattle.tv_value.specs.Orders.{named}
-use Rattle.tv_value.proofs.OfItems.{items-trees_of}
+use Rattle.tv_value.proofs.ItemLemmas.{items-trees_of}
 use Rattle.tv_gate.specs.Views.{outcome_view}
 use Rattle.tv_local.specs.LocalGives.{local_outcome}
 use Rattle.tv_local.specs.Table.{names}

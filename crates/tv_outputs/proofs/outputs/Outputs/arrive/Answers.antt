@@ -8,7 +8,7 @@ use Rattle.tv_parts.specs.Changes.{arrive, CanArrive}
 use Rattle.tv_cell.specs.declared.piece.Piece.{Piece}
 use Rattle.tv_cell.specs.PieceValues.{piece_value}
 use Rattle.tv_cell.specs.Soundness.{AreSound}
-use Rattle.tv_cell.proofs.OfPieces.{piece-sound}
+use Rattle.tv_cell.proofs.PieceLemmas.{piece-sound}
 use Rattle.tv_outputs.specs.Known.{known_in, depths_in, needed}
 use Rattle.tv_outputs.specs.Changes.{Arrive, no_value}
 use Rattle.tv_outputs.proofs.Lists.{length-more}

@@ -11,7 +11,7 @@ use Rattle.tv_outputs.specs.Seen.{Sees}
 use Rattle.tv_outputs.proofs.Lists.{tree-at}
 use Rattle.tv_outputs.proofs.Ones.{within, fits, found, one-stands}
 use Rattle.tv_outputs.proofs.Building.{ended, ended-at}
-use Rattle.tv_outputs.proofs.OfPieces.{FromTop, from-top, list-then}
+use Rattle.tv_outputs.proofs.PieceLemmas.{FromTop, from-top, list-then}
 use Rattle.tv_outputs.proofs.Seeing.{sees-top}
 use Rattle.tv_outputs.proofs.outputs.Outputs.piece_closed.Goals as goal
 

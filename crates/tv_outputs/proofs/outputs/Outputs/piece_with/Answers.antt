@@ -10,7 +10,7 @@ use Rattle.tv_outputs.specs.Known.{known_of, known_in, tree_in}
 use Rattle.tv_outputs.specs.Seen.{Sees}
 use Rattle.tv_outputs.proofs.Lists.{tree-at}
 use Rattle.tv_outputs.proofs.Ones.{within, fits, found, one-stands}
-use Rattle.tv_outputs.proofs.OfPieces.{FromTop, from-top}
+use Rattle.tv_outputs.proofs.PieceLemmas.{FromTop, from-top}
 use Rattle.tv_outputs.proofs.Seeing.{sees-top}
 use Rattle.tv_outputs.proofs.outputs.Outputs.piece_with.Goals as goal
 

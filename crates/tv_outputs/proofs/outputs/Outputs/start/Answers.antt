@@ -2,7 +2,7 @@ use Rattle.std.proofs.Common.{◌≤◌, ◌+◌, ◌++◌, ◌∷◌, [], ℕ, 
 use Rattle.std.proofs.lemmas.List.{take_all, take_more}
 use Rattle.tv_parts.specs.Partials.{wanting}
 use Rattle.tv_pool.specs.Pool.{number_of}
-use Rattle.tv_nodes.specs.Calls.{count_in}
+use Rattle.tv_stream.specs.nodes.Calls.{count_in}
 use Rattle.tv_outputs.specs.Known.{known_in, depths_in}
 use Rattle.tv_outputs.specs.Kept.{AreKeptBeside}
 use Rattle.tv_outputs.proofs.Lists.{map-more}

@@ -1,7 +1,7 @@
 use Rattle.std.proofs.Common.{◌≡◌, ◌≤◌, ◌+◌, map, take}
 use Rattle.tv_parts.specs.Partials.{wanting}
 use Rattle.tv_pool.specs.Pool.{IsLive, number_of}
-use Rattle.tv_nodes.specs.Calls.{KeepsRegions, count_in}
+use Rattle.tv_stream.specs.nodes.Calls.{KeepsRegions, count_in}
 use Rattle.tv_outputs.specs.Known.{known_in, depths_in}
 use Rattle.tv_outputs.specs.Kept.{AreKeptBeside}
 use Rattle.tv_outputs.proofs.outputs.Outputs.start.Given as goal

@@ -2,8 +2,8 @@ use Rattle.std.specs.Prelude.{[], ◌++◌, ◌∷◌}
 use Rattle.std.proofs.Common.{arith, length, refl, subst, ◌<◌, ◌∙◌}
 use Rattle.std.proofs.lemmas.Option.{slice_get_read}
 use Rattle.std.proofs.lemmas.Result.{on_ok_weaker}
-use Rattle.tv_run.proofs.OfJobNames.{name-alone, name-behind, opener-less, opener-low}
-use Rattle.tv_run.proofs.OfSteps.{code-low}
+use Rattle.tv_run.proofs.JobNames.{name-alone, name-behind, opener-less, opener-low}
+use Rattle.tv_run.proofs.Steps.{code-low}
 use Rattle.tv_run.proofs.run.OpenRun.+push_name.Goals as goal
 use Rattle.tv_run.proofs.run.OpenRun.+push_name.Goals.{in-Some+in_ok-push_name, in_default}
 

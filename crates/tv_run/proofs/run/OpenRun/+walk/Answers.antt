@@ -1,10 +1,10 @@
 use Rattle.std.specs.Prelude.{is_some}
 use Rattle.std.proofs.Common.{IfSome, ap, arith, get_or, length, subst, sym, ◌*◌, ◌+◌, ◌-◌, ◌<◌, ◌≡◌, ◌∙◌}
 use Rattle.tv_run.specs.Walking.{IsFoundBefore, IsFoundInside, IsFoundOf}
-use Rattle.tv_run.proofs.OfWalkInside.{NoneOfFirst, none-deeper, none-left, none-passed, one-more, some-at}
-use Rattle.tv_run.proofs.OfWalkNested.{behind-none, end-none, found-some, inner-at, nested-low, nested-stage, next-none}
-use Rattle.tv_run.proofs.OfWalkOpen.{going-is, leveled, seats-at, some-open, step-within, there, turn-at}
-use Rattle.tv_run.proofs.OfWalkSteps.{none-yet, own-low, own-or_none}
+use Rattle.tv_run.proofs.WalkInside.{NoneOfFirst, none-deeper, none-left, none-passed, one-more, some-at}
+use Rattle.tv_run.proofs.WalkNested.{behind-none, end-none, found-some, inner-at, nested-low, nested-stage, next-none}
+use Rattle.tv_run.proofs.WalkOpen.{going-is, leveled, seats-at, some-open, step-within, there, turn-at}
+use Rattle.tv_run.proofs.WalkSteps.{none-yet, own-low, own-or_none}
 use Rattle.tv_run.proofs.run.OpenRun.+walk.Goals as goal
 
 -- ---- one step

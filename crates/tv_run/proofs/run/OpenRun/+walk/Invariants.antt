@@ -1,12 +1,12 @@
 use Rattle.std.specs.Prelude.{List, Some, length, ℕ, ◌*◌, ◌+◌, ◌++◌, ◌≡◌}
 use Rattle.tv_gate.specs.Outcomes.{Giving}
-use Rattle.tv_framing.specs.Views.{View}
-use Rattle.tv_framing.specs.turns.FirstReady.{by_falling_rank}
-use Rattle.tv_forest.specs.Forest.{Instance, Instances, IsAt}
+use Rattle.tv_instances.specs.FramingViews.{View}
+use Rattle.tv_instances.specs.framing_turns.FirstReady.{by_falling_rank}
+use Rattle.tv_instances.specs.Forest.{Instance, Instances, IsAt}
 use Rattle.tv_run.specs.Standing.{Stands}
 use Rattle.tv_run.specs.Walking.{IsOwn}
-use Rattle.tv_run.proofs.OfWalkInside.{NoneOfFirst}
-use Rattle.tv_run.proofs.OfWalkSteps.{NoneAmong}
+use Rattle.tv_run.proofs.WalkInside.{NoneOfFirst}
+use Rattle.tv_run.proofs.WalkSteps.{NoneAmong}
 use Rattle.tv_run.proofs.run.OpenRun.+walk.Given as goal
 
 abbrev pub decreases-first_in : goal.decreases-first_in

@@ -1,5 +1,5 @@
 use Rattle.std.proofs.Common.{subst, sym}
-use Rattle.tv_frame.proofs.OfFaultingRead.{ok-weaken}
+use Rattle.tv_frame.proofs.FaultingRead.{ok-weaken}
 use Rattle.tv_run.specs.Turns.{AcceptsTo, IsAsked}
 use Rattle.tv_run.proofs.run.OpenRun.accept.Goals as goal
 

@@ -1,8 +1,8 @@
 use Rattle.std.proofs.Common.{sym, ◌∙◌}
 use Rattle.tv_flow.specs.Views.{step_view}
-use Rattle.tv_frame.proofs.OfFaultingRead.{ok-weaken}
+use Rattle.tv_frame.proofs.FaultingRead.{ok-weaken}
 use Rattle.tv_gate.specs.Views.{outcome_view}
-use Rattle.tv_run.proofs.OfJudged.{right-judged, wrong-judged}
+use Rattle.tv_run.proofs.Judged.{right-judged, wrong-judged}
 use Rattle.tv_run.proofs.run.OpenRun.accept_own.Goals as goal
 
 pub accept_right-requires : goal.accept_right-requires

@@ -2,8 +2,8 @@ use Rattle.std.proofs.Common.{ap, sym, true, ◌∙◌}
 use Rattle.tv_cell.specs.PieceValues.{piece_values}
 use Rattle.tv_gate.specs.Outcomes.{good}
 use Rattle.tv_gate.specs.Views.{outcome_view}
-use Rattle.tv_run.proofs.OfAccepted.{accepts-settled}
-use Rattle.tv_run.proofs.OfJudged.{right-settles}
+use Rattle.tv_run.proofs.Accepted.{accepts-settled}
+use Rattle.tv_run.proofs.Judged.{right-settles}
 use Rattle.tv_run.proofs.run.OpenRun.accept_right.Goals as goal
 
 pub settle_with-requires-clause-settles : goal.settle_with-requires-clause-settles

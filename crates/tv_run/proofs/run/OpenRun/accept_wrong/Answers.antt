@@ -1,6 +1,6 @@
 use Rattle.std.proofs.Common.{sym, ◌∙◌}
 use Rattle.tv_dispatch.specs.declared.plan.Next.TheVariants as next
-use Rattle.tv_run.proofs.OfJudged.{asks-service, else-fails, few-asked, not-right, said-of, within-retries}
+use Rattle.tv_run.proofs.Judged.{asks-service, else-fails, few-asked, not-right, said-of, within-retries}
 use Rattle.tv_run.proofs.run.OpenRun.accept_wrong.Goals as goal
 
 pub after-requires-clause-few : goal.after-requires-clause-few

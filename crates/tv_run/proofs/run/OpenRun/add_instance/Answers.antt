@@ -7,15 +7,15 @@ use Rattle.tv_check.specs.RunViews.{run_view}
 use Rattle.tv_frame.specs.Tables.{AreTables}
 use Rattle.tv_run.specs.Rooms.{HasRoomBeside}
 use Rattle.tv_run.specs.declared.run.OpenRun.{OpenRun}
-use Rattle.tv_run.proofs.OfAdding.{before-given_up, before-room, flow-low, is-entering, looks-low, only-one, tables-are}
-use Rattle.tv_run.proofs.OfEnters.{IsStarted, adds-to, entered, opened-on}
-use Rattle.tv_run.proofs.OfFlowPlans.{plan-flow}
+use Rattle.tv_run.proofs.Adding.{before-given_up, before-room, flow-low, is-entering, looks-low, only-one, tables-are}
+use Rattle.tv_run.proofs.Enters.{IsStarted, adds-to, entered, opened-on}
+use Rattle.tv_run.proofs.FlowPlans.{plan-flow}
 use Rattle.tv_run.proofs.run.OpenRun.add_instance.Goals as goal
 
 pub returns-in_err-reserve-clause-refused : goal.returns-in_err-reserve-clause-refused
 returns-in_err-reserve-clause-refused c =
     on-err c.from_residual.result
-    (before-room c.args.self.now c.reserve.new.self c.reserve.ensures.items c.args.self.now.husks c.args.self.now.pool
+    (before-room c.args.self.now c.reserve.new.self c.reserve.ensures.items c.args.self.now.leftovers c.args.self.now.pool
     (λ n. refl))
 
 pub flow-plan-requires : goal.flow-plan-requires
@@ -23,8 +23,8 @@ flow-plan-requires c =
     let q = c.requires.fits in
     flow-low (run_view c.args.self.now.run) c.args.flow q.1 q.3.is_flow
 
-pub husk_with-requires-clause-can : goal.husk_with-requires-clause-can
-husk_with-requires-clause-can c =
+pub leftover_with-requires-clause-can : goal.leftover_with-requires-clause-can
+leftover_with-requires-clause-can c =
     let q = c.requires.fits in
     let d = run_view c.args.self.now.run in
     (d, q.3.start c.flow-plan.result.now (plan-flow d c.args.flow q.1 c.flow-plan.result.now q.3.is_flow c.flow-plan.ensures))
@@ -36,8 +36,8 @@ index-requires c =
     subst (λ n. c.args.flow < n) (sym r.looks.ok.0)
     (looks-low (run_view r.run) r.looks.items q.3.fits.looks c.args.flow q.1 q.3.is_flow)
 
-pub husk_with-requires-clause-tables : goal.husk_with-requires-clause-tables
-husk_with-requires-clause-tables c =
+pub leftover_with-requires-clause-tables : goal.leftover_with-requires-clause-tables
+leftover_with-requires-clause-tables c =
     let q = c.requires.fits in
     let r = c.args.self.now in
     let d = run_view r.run in
@@ -45,21 +45,21 @@ husk_with-requires-clause-tables c =
     (sym (plan-flow d c.args.flow q.1 c.flow-plan.result.now q.3.is_flow c.flow-plan.ensures))
     (tables-are d r.looks.items q.3.fits.looks c.args.flow q.1 q.3.is_flow c.index.result.now c.index.ensures)
 
-pub returns-in_err-husk-clause-refused : goal.returns-in_err-husk-clause-refused
-returns-in_err-husk-clause-refused c =
-    on-err c.from_residual-in_err-husk.result
-    (before-room c.args.self.now c.reserve.new.self c.reserve.ensures.items c.husk_with.new.husks c.husk_with.new.pool
-    c.in_err-husk.ensures.refused)
+pub returns-in_err-leftover-clause-refused : goal.returns-in_err-leftover-clause-refused
+returns-in_err-leftover-clause-refused c =
+    on-err c.from_residual-in_err-leftover.result
+    (before-room c.args.self.now c.reserve.new.self c.reserve.ensures.items c.leftover_with.new.leftovers c.leftover_with.new.pool
+    c.in_err-leftover.ensures.refused)
 
 pub index-requires-2 : goal.index-requires-2
 index-requires-2 c =
-    let one = ap length c.in_ok-husk.ensures.ok.is_one in
-    omega (arith, one, c.in_ok-husk.husk.slot.ok.0)
+    let one = ap length c.in_ok-leftover.ensures.ok.is_one in
+    omega (arith, one, c.in_ok-leftover.leftover.slot.ok.0)
 
 pub enter-requires : goal.enter-requires
 enter-requires c =
-    let h = c.in_ok-husk.ensures.ok in
-    let more = c.known.ensures ∙ ap (λ o. length o.seats.seats) (only-one c.in_ok-husk.husk.slot h.itself h.is_one c.index-2.result.now c.index-2.ensures) in
+    let h = c.in_ok-leftover.ensures.ok in
+    let more = c.known.ensures ∙ ap (λ o. length o.seats.seats) (only-one c.in_ok-leftover.leftover.slot h.itself h.is_one c.index-2.result.now c.index-2.ensures) in
     let room = c.in_ok-reserve.ensures.ok in
     let same = c.reserve-2.ensures.instances in
     let long = ap (λ v. length v.items) same in
@@ -67,9 +67,9 @@ enter-requires c =
     let items = ap length c.reserve.ensures.items in
     let numbers = c.in-Ok.ensures.rooms.1 in (
       h.itself,
-      is-entering c.args.self.now c.reserve.new.self c.reserve.ensures.items c.husk_with.new.husks c.husk_with.new.pool
-          c.reserve-2.new.self h.itself c.reserve-2.new.jobs c.in_ok-husk.husk.slot c.reserve-2.ensures.same h.is_one
-          (c.reserve-2.ensures.jobs ∙ c.in_ok-husk.ensures.none)
+      is-entering c.args.self.now c.reserve.new.self c.reserve.ensures.items c.leftover_with.new.leftovers c.leftover_with.new.pool
+          c.reserve-2.new.self h.itself c.reserve-2.new.jobs c.in_ok-leftover.leftover.slot c.reserve-2.ensures.same h.is_one
+          (c.reserve-2.ensures.jobs ∙ c.in_ok-leftover.ensures.none)
           (subst (HasRoomBeside c.reserve-2.new.self) more c.in-Ok.ensures.rooms.0)
           (subst (λ n. length c.reserve-2.new.jobs.items + n ≤ vec_capacity c.reserve-2.new.jobs) more numbers)
           (omega (arith, room, long, wide, items)),
@@ -77,19 +77,19 @@ enter-requires c =
 
 pub index_mut-requires : goal.index_mut-requires
 index_mut-requires c =
-    let one = ap length c.in_ok-husk.ensures.ok.is_one in
-    omega (arith, one, c.in_ok-husk.husk.slot.ok.0)
+    let one = ap length c.in_ok-leftover.ensures.ok.is_one in
+    omega (arith, one, c.in_ok-leftover.leftover.slot.ok.0)
 
 pub abandon-requires : goal.abandon-requires
 abandon-requires c =
     let q = c.requires.fits in
     let d = run_view c.args.self.now.run in
-    let h = c.in_ok-husk.ensures.ok in
+    let h = c.in_ok-leftover.ensures.ok in
     let starts =
     h.starts d
     (q.3.start c.flow-plan.result.now (plan-flow d c.args.flow q.1 c.flow-plan.result.now q.3.is_flow c.flow-plan.ensures)) in
     subst (λ o. IsLive c.reserve-2.new.self.pool o.frame.region)
-    (sym (only-one c.in_ok-husk.husk.slot h.itself h.is_one c.index_mut.result.now c.index_mut.ensures.value))
+    (sym (only-one c.in_ok-leftover.leftover.slot h.itself h.is_one c.index_mut.result.now c.index_mut.ensures.value))
     (subst (λ p. IsLive p h.itself.frame.region) (sym c.reserve-2.ensures.same.pool) starts.is_open.keeps.live)
 
 pub returns-in-Ok-clause-added : goal.returns-in-Ok-clause-added
@@ -98,10 +98,10 @@ returns-in-Ok-clause-added c xs f name can =
     let d = run_view r.run in
     let m : OpenRun = record r {
       instances = c.reserve.new.self;
-      pool = c.husk_with.new.pool;
-      husks = c.husk_with.new.husks;
+      pool = c.leftover_with.new.pool;
+      leftovers = c.leftover_with.new.leftovers;
     } in
-    let h = c.in_ok-husk.ensures.ok in
+    let h = c.in_ok-leftover.ensures.ok in
     let o = h.itself in
     let plan = c.flow-plan.result.now in
     let of_flow = plan-flow d c.args.flow f plan can.is_flow c.flow-plan.ensures in
@@ -133,8 +133,8 @@ returns-in-Ok-clause-added c xs f name can =
 
 pub returns-in-Ok-clause-room : goal.returns-in-Ok-clause-room
 returns-in-Ok-clause-room c =
-    let h = c.in_ok-husk.ensures.ok in
-    let more = c.known.ensures ∙ ap (λ o. length o.seats.seats) (only-one c.in_ok-husk.husk.slot h.itself h.is_one c.index-2.result.now c.index-2.ensures) in
+    let h = c.in_ok-leftover.ensures.ok in
+    let more = c.known.ensures ∙ ap (λ o. length o.seats.seats) (only-one c.in_ok-leftover.leftover.slot h.itself h.is_one c.index-2.result.now c.index-2.ensures) in
     let e = c.enter.ensures h.itself h.is_one in
     let long = ap (λ v. length v.items) e.around.entries in
     let wide = ap vec_capacity e.around.entries in
@@ -145,8 +145,8 @@ returns-in-Ok-clause-room c =
 
 pub returns-in-Err-clause-refused : goal.returns-in-Err-clause-refused
 returns-in-Err-clause-refused c =
-    let h = c.in_ok-husk.ensures.ok in
-    let same = only-one c.in_ok-husk.husk.slot h.itself h.is_one c.index_mut.result.now c.index_mut.ensures.value in
-    before-given_up c.args.self.now c.reserve.new.self c.reserve.ensures.items c.husk_with.new.husks c.husk_with.new.pool
+    let h = c.in_ok-leftover.ensures.ok in
+    let same = only-one c.in_ok-leftover.leftover.slot h.itself h.is_one c.index_mut.result.now c.index_mut.ensures.value in
+    before-given_up c.args.self.now c.reserve.new.self c.reserve.ensures.items c.leftover_with.new.leftovers c.leftover_with.new.pool
     c.abandon.new.pool c.reserve-2.new.self h.itself c.reserve-2.ensures.same h.own h.keeps
     (c.abandon.ensures ∙ ap (λ o. regions_with c.reserve-2.new.self.pool (number_of o.frame.region) None) same)

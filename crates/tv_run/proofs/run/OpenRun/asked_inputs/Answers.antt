@@ -1,8 +1,8 @@
 use Rattle.tv_value.specs.Views.{values_view}
-use Rattle.tv_frame.proofs.OfFaultingRead.{ok-weaken}
+use Rattle.tv_frame.proofs.FaultingRead.{ok-weaken}
 use Rattle.tv_run.specs.Following.{numbered_in}
-use Rattle.tv_run.proofs.OfAskedOut.{asked-now, asked-out}
-use Rattle.tv_run.proofs.OfTasks.{inputs-are, of-open}
+use Rattle.tv_run.proofs.AskedOut.{asked-now, asked-out}
+use Rattle.tv_run.proofs.TaskLemmas.{inputs-are, of-open}
 use Rattle.tv_run.proofs.run.OpenRun.asked_inputs.Goals as goal
 
 pub values_bound-requires-clause-job : goal.values_bound-requires-clause-job

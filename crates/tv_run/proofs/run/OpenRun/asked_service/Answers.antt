@@ -1,8 +1,8 @@
 use Rattle.std.proofs.Common.{◌<◌, ap, length, subst, sym}
-use Rattle.tv_naming.proofs.OfTold.{got-in}
+use Rattle.tv_naming.proofs.Told.{got-in}
 use Rattle.tv_run.specs.Jobs.{is_service}
-use Rattle.tv_run.proofs.OfAskedOut.{asked-now, asked-out}
-use Rattle.tv_run.proofs.OfTasks.{activity-is, activity-within, service-is}
+use Rattle.tv_run.proofs.AskedOut.{asked-now, asked-out}
+use Rattle.tv_run.proofs.TaskLemmas.{activity-is, activity-within, service-is}
 use Rattle.tv_run.proofs.run.OpenRun.asked_service.Goals as goal
 
 pub bounds-as_slice-ticket : goal.bounds-as_slice-ticket

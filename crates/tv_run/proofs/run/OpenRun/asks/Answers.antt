@@ -1,14 +1,14 @@
 use Rattle.std.specs.Cmp.Lexicographic.{bytes_decides}
 use Rattle.std.proofs.Common.{◌<◌, ◌≡◌, ◌∙◌, ap, length, map, refl, subst, sym}
 use Rattle.tv_value.specs.Activities.{service}
-use Rattle.tv_naming.proofs.OfTold.{got-in}
-use Rattle.tv_entries.specs.Answers.{question}
+use Rattle.tv_naming.proofs.Told.{got-in}
+use Rattle.tv_history.specs.Answers.{question}
 use Rattle.tv_model.proofs.Tests.{true≠false}
 use Rattle.tv_run.specs.Accepting.{IsAnswerTo}
 use Rattle.tv_run.specs.Standing.{run_of}
-use Rattle.tv_run.proofs.OfAnswering.{answers-by}
-use Rattle.tv_run.proofs.OfAskedOut.{asked-now}
-use Rattle.tv_run.proofs.OfTasks.{activity-is, activity-within, is-other, of-open, outputs-are, service-is}
+use Rattle.tv_run.proofs.Answering.{answers-by}
+use Rattle.tv_run.proofs.AskedOut.{asked-now}
+use Rattle.tv_run.proofs.TaskLemmas.{activity-is, activity-within, is-other, of-open, outputs-are, service-is}
 use Rattle.tv_run.proofs.run.OpenRun.asks.Goals as goal
 use Rattle.tv_run.proofs.run.OpenRun.asks.Goals.{then-is_service, else-is_service}
 

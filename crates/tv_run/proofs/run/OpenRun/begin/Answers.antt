@@ -1,6 +1,6 @@
 use Rattle.std.proofs.Common.{ap, arith}
 use Rattle.std.specs.Prelude.{length, vec_capacity}
-use Rattle.tv_run.proofs.OfHanding.{handed-here, handed-may, handed-ready, hands-out}
+use Rattle.tv_run.proofs.HandingLemmas.{handed-here, handed-may, handed-ready, hands-out}
 use Rattle.tv_run.proofs.run.OpenRun.begin.Goals as goal
 
 pub take_out-requires : goal.take_out-requires

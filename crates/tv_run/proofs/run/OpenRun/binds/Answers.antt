@@ -1,12 +1,12 @@
 use Rattle.std.proofs.Common.{ap, map, subst, sym, ◌≡◌, ◌∙◌}
 use Rattle.tv_check.specs.RunViews.{run_view}
 use Rattle.tv_flow.specs.Flows.{Flow}
-use Rattle.tv_framing.specs.Answers.{AreInputs}
-use Rattle.tv_forest.specs.seats.Seated.{spot_of}
+use Rattle.tv_instances.specs.Answers.{AreInputs}
+use Rattle.tv_instances.specs.seats.Seated.{spot_of}
 use Rattle.tv_value.specs.Nested.{items}
 use Rattle.tv_value.specs.Views.{values_view, view}
-use Rattle.tv_value.proofs.OfItems.{items-trees_of}
-use Rattle.tv_run.proofs.OfOpenJobs.{at-there, code-there, is-open, open-as, open-of, opened-as, seat-in, seat-low}
+use Rattle.tv_value.proofs.ItemLemmas.{items-trees_of}
+use Rattle.tv_run.proofs.OpenJobs.{at-there, code-there, is-open, open-as, open-of, opened-as, seat-in, seat-low}
 use Rattle.tv_run.proofs.run.OpenRun.binds.Goals as goal
 
 pub opened-requires : goal.opened-requires

@@ -2,9 +2,9 @@ use Rattle.std.proofs.Common.{arith, refl, ◌∙◌}
 use Rattle.tv_lemmas.proofs.Options.{on-err}
 use Rattle.tv_cell.specs.PieceValues.{piece_values}
 use Rattle.tv_run.specs.Settlements.{bounces_job}
-use Rattle.tv_run.proofs.OfBouncing.{listed-low, may-bounce, may-give, read-job, seat-here, step}
-use Rattle.tv_run.proofs.OfRooms.{stands-before, stays-before}
-use Rattle.tv_run.proofs.OfSettlings.{bounce-goes, entry-room, settles-in}
+use Rattle.tv_run.proofs.Bouncing.{listed-low, may-bounce, may-give, read-job, seat-here, step}
+use Rattle.tv_run.proofs.Rooms.{stands-before, stays-before}
+use Rattle.tv_run.proofs.Settlings.{bounce-goes, entry-room, settles-in}
 use Rattle.tv_run.proofs.run.OpenRun.bounce.Goals as goal
 
 pub index-job-requires : goal.index-job-requires

@@ -6,10 +6,10 @@ use Rattle.tv_flow.specs.Views.{step_view}
 use Rattle.tv_dispatch.specs.Jobs.{error_results, fault_makers}
 use Rattle.tv_cell.specs.PieceValues.{piece_values}
 use Rattle.tv_model.specs.Jobs.{Job}
-use Rattle.tv_forest.specs.Forest.{Instances}
+use Rattle.tv_instances.specs.Forest.{Instances}
 use Rattle.tv_run.specs.Settlements.{IsBouncedJob}
 use Rattle.tv_run.specs.Standing.{Stands}
-use Rattle.tv_run.proofs.OfBouncing.{job-low, known-as_it, of-open, result-is}
+use Rattle.tv_run.proofs.Bouncing.{job-low, known-as_it, of-open, result-is}
 use Rattle.tv_run.proofs.run.OpenRun.bounced.Goals as goal
 
 pub inputs_of-requires : goal.inputs_of-requires

@@ -1,9 +1,9 @@
 use Rattle.std.specs.Prelude.{length, slice_index_or}
 use Rattle.std.proofs.Common.{ap, arith, ◌∙◌}
 use Rattle.tv_check.specs.RunViews.{run_view}
-use Rattle.tv_run.proofs.OfEnding.{open-some}
-use Rattle.tv_run.proofs.OfItself.{number-low, open-low, open-read}
-use Rattle.tv_run.proofs.OfShut.{changes-closed, closes, leaves-others, names-closed, with_closed}
+use Rattle.tv_run.proofs.Ending.{open-some}
+use Rattle.tv_run.proofs.Itself.{number-low, open-low, open-read}
+use Rattle.tv_run.proofs.Shut.{changes-closed, closes, leaves-others, names-closed, with_closed}
 use Rattle.tv_run.proofs.run.OpenRun.close.Goals as goal
 
 pub index_mut-ended-requires : goal.index_mut-ended-requires
@@ -63,7 +63,7 @@ returns-clause-shut c = λ xs x v here ends.
     changes-closed r i xs x v here _ g c.index_mut-ended.ensures.value p same
     (closes r i g p c.replace-slot.new.dest (ap (λ w. w.items) c.replace-slot.ensures.after ∙ c.new.ensures.items)
     c.replace-numbers.new.dest (ap (λ w. w.items) c.replace-numbers.ensures.after ∙ c.new-2.ensures.items) c.finish-outs.result.1 c.finish-outs.ensures.seats
-    c.finish-outs.new.pool c.finish-outs.ensures.gone c.keep.new.husks)
+    c.finish-outs.new.pool c.finish-outs.ensures.gone c.keep.new.leftovers)
 
 pub returns-clause-others : goal.returns-clause-others
 returns-clause-others c = λ xs x v here ends.
@@ -75,7 +75,7 @@ returns-clause-others c = λ xs x v here ends.
     leaves-others r i xs x v here _ g c.index_mut-ended.ensures.value p same
     (closes r i g p c.replace-slot.new.dest (ap (λ w. w.items) c.replace-slot.ensures.after ∙ c.new.ensures.items)
     c.replace-numbers.new.dest (ap (λ w. w.items) c.replace-numbers.ensures.after ∙ c.new-2.ensures.items) c.finish-outs.result.1 c.finish-outs.ensures.seats
-    c.finish-outs.new.pool c.finish-outs.ensures.gone c.keep.new.husks)
+    c.finish-outs.new.pool c.finish-outs.ensures.gone c.keep.new.leftovers)
     c.finish-outs.ensures.spare
 
 pub returns-clause-names : goal.returns-clause-names
@@ -88,8 +88,8 @@ returns-clause-names c =
     let same =
     open-read r i q.0 q.1 q.2 q.3 g c.index_mut-ended.ensures.value p (c.index_mut.ensures.value ∙ ap (λ w. slice_index_or w.items 0 p) c.replace-slot.ensures.value) in
     names-closed r i q.0 q.1 q.2 q.3
-    (with_closed r i g c.replace-slot.new.dest c.replace-numbers.new.dest c.finish-outs.result.1 c.finish-outs.new.pool c.keep.new.husks)
+    (with_closed r i g c.replace-slot.new.dest c.replace-numbers.new.dest c.finish-outs.result.1 c.finish-outs.new.pool c.keep.new.leftovers)
     g c.index_mut-ended.ensures.value p same
     (closes r i g p c.replace-slot.new.dest (ap (λ w. w.items) c.replace-slot.ensures.after ∙ c.new.ensures.items)
     c.replace-numbers.new.dest (ap (λ w. w.items) c.replace-numbers.ensures.after ∙ c.new-2.ensures.items) c.finish-outs.result.1 c.finish-outs.ensures.seats
-    c.finish-outs.new.pool c.finish-outs.ensures.gone c.keep.new.husks)
+    c.finish-outs.new.pool c.finish-outs.ensures.gone c.keep.new.leftovers)

@@ -1,9 +1,9 @@
 use Rattle.std.specs.Option.{option_map_or}
 use Rattle.std.specs.Prelude.{◌≡◌, ◌<◌, false, length}
 use Rattle.std.proofs.Common.{ap, arith, refl, ◌∙◌}
-use Rattle.tv_forest.specs.stands.Seats.{is_over}
+use Rattle.tv_instances.specs.stands.Seats.{is_over}
 use Rattle.tv_run.specs.Jobs.{stage_of}
-use Rattle.tv_run.proofs.OfCountedJobs.{all-counted, not-over, one-over}
+use Rattle.tv_run.proofs.CountedJobs.{all-counted, not-over, one-over}
 use Rattle.tv_run.proofs.run.OpenRun.count_settled.Goals as goal
 use Rattle.tv_run.proofs.run.OpenRun.count_settled.Goals.{else-is_settled, then-is_settled}
 

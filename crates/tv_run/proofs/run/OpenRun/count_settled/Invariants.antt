@@ -1,5 +1,5 @@
 use Rattle.std.specs.Prelude.{◌≡◌, ◌≤◌, count_by, take}
-use Rattle.tv_run.proofs.OfCountedJobs.{over_in}
+use Rattle.tv_run.proofs.CountedJobs.{over_in}
 use Rattle.tv_run.proofs.run.OpenRun.count_settled.Given as goal
 
 abbrev pub invariant-loop-job : goal.invariant-loop-job

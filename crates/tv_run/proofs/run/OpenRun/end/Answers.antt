@@ -1,8 +1,8 @@
 use Rattle.std.proofs.Common.{arith, false, refl, subst, true}
 use Rattle.tv_run.specs.Settlements.{EndsIn, IsOpenIn, OfOpen}
-use Rattle.tv_run.proofs.OfBouncing.{open-here}
-use Rattle.tv_run.proofs.OfEndOrNot.{ended-said, main-is, opener-is}
-use Rattle.tv_run.proofs.OfItself.{its-code, number-low}
+use Rattle.tv_run.proofs.Bouncing.{open-here}
+use Rattle.tv_run.proofs.EndOrNot.{ended-said, main-is, opener-is}
+use Rattle.tv_run.proofs.Itself.{its-code, number-low}
 use Rattle.tv_run.proofs.run.OpenRun.end.Goals as goal
 
 pub opened-requires : goal.opened-requires

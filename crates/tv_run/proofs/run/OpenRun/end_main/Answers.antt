@@ -2,11 +2,11 @@ use Rattle.std.specs.Prelude.{vec_capacity}
 use Rattle.std.proofs.Common.{ap, arith, length}
 use Rattle.tv_lemmas.proofs.Options.{on-err}
 use Rattle.tv_run.specs.Changes.{IsOpenHere}
-use Rattle.tv_run.proofs.OfEnding.{ends-now}
-use Rattle.tv_run.proofs.OfEndingMain.{ends-main}
-use Rattle.tv_run.proofs.OfRooms.{before-entries, stays-before}
+use Rattle.tv_run.proofs.Ending.{ends-now}
+use Rattle.tv_run.proofs.EndingMain.{ends-main}
+use Rattle.tv_run.proofs.Rooms.{before-entries, stays-before}
 use Rattle.tv_run.proofs.run.OpenRun.end_main.Goals as goal
-use Rattle.tv_run.proofs.OfBouncing.{open-here}
+use Rattle.tv_run.proofs.Bouncing.{open-here}
 
 pub returns-in_err-reserve_entries-clause-refused : goal.returns-in_err-reserve_entries-clause-refused
 returns-in_err-reserve_entries-clause-refused c =

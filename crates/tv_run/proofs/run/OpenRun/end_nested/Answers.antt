@@ -1,9 +1,9 @@
 use Rattle.std.specs.Prelude.{vec_capacity}
 use Rattle.std.proofs.Common.{ap, arith, length, ◌∙◌}
 use Rattle.tv_cell.specs.PieceValues.{piece_values}
-use Rattle.tv_run.proofs.OfEnding as ending
-use Rattle.tv_run.proofs.OfEndingNested as nested
-use Rattle.tv_run.proofs.OfRooms.{stays-before}
+use Rattle.tv_run.proofs.Ending as ending
+use Rattle.tv_run.proofs.EndingNested as nested
+use Rattle.tv_run.proofs.Rooms.{stays-before}
 use Rattle.tv_lemmas.proofs.Options.{on-err}
 use Rattle.tv_run.proofs.run.OpenRun.end_nested.Goals as goal
 

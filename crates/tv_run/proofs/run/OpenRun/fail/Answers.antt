@@ -1,9 +1,9 @@
 use Rattle.std.proofs.Common.{arith, false, sym, ◌+◌}
 use Rattle.tv_cell.specs.PieceValues.{piece_values}
 use Rattle.tv_run.specs.Accepting.{with_failed}
-use Rattle.tv_run.proofs.OfAccepted.{accepts-settled, failed-counted}
-use Rattle.tv_run.proofs.OfFew.{failed-few}
-use Rattle.tv_run.proofs.OfJudged.{not-right, wrong-settles}
+use Rattle.tv_run.proofs.Accepted.{accepts-settled, failed-counted}
+use Rattle.tv_run.proofs.Few.{failed-few}
+use Rattle.tv_run.proofs.Judged.{not-right, wrong-settles}
 use Rattle.tv_run.proofs.run.OpenRun.fail.Goals as goal
 
 pub settle_with-requires-clause-settles : goal.settle_with-requires-clause-settles

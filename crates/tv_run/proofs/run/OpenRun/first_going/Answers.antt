@@ -1,6 +1,6 @@
 use Rattle.std.proofs.Common.{ap, length, ◌+◌}
 use Rattle.tv_value.specs.Values.{JobName}
-use Rattle.tv_run.proofs.OfWalkInside.{found-of_all, main-open}
+use Rattle.tv_run.proofs.WalkInside.{found-of_all, main-open}
 use Rattle.tv_run.proofs.run.OpenRun.first_going.Goals as goal
 
 pub first_in-requires : goal.first_in-requires

@@ -1,8 +1,8 @@
 use Rattle.std.proofs.Common.{length, subst, sym, ◌<◌}
 use Rattle.tv_flow.specs.Flows.{Flow}
 use Rattle.tv_check.specs.RunViews.{run_view}
-use Rattle.tv_run.proofs.OfWalkOpen.{open-at, same-flow, there}
-use Rattle.tv_run.proofs.OfWalkOwn.{own-begun, own-is}
+use Rattle.tv_run.proofs.WalkOpen.{open-at, same-flow, there}
+use Rattle.tv_run.proofs.WalkOwn.{own-begun, own-is}
 use Rattle.tv_run.proofs.run.OpenRun.first_own.Goals as goal
 
 pub opened-requires : goal.opened-requires

@@ -1,7 +1,7 @@
 use Rattle.std.proofs.Common.{refl, subst, sym, ◌∙◌}
-use Rattle.tv_entries.specs.Runs.{past_of}
+use Rattle.tv_history.specs.Runs.{past_of}
 use Rattle.tv_run.specs.Standing.{run_of}
-use Rattle.tv_run.proofs.OfWalkTickets.{IsTriedFirst, not-tried, tried-first}
+use Rattle.tv_run.proofs.WalkTickets.{IsTriedFirst, not-tried, tried-first}
 use Rattle.tv_run.proofs.run.OpenRun.first_ticket.Goals as goal
 
 pub unreachable-requires : goal.unreachable-requires

@@ -1,7 +1,7 @@
 use Rattle.std.proofs.lemmas.Option.{slice_get_within}
 use Rattle.tv_check.specs.RunViews.{run_view}
-use Rattle.tv_run.proofs.OfFirstBounced.{first-bounced, open-read}
-use Rattle.tv_run.proofs.OfItself.{its-code}
+use Rattle.tv_run.proofs.FirstBounced.{first-bounced, open-read}
+use Rattle.tv_run.proofs.Itself.{its-code}
 use Rattle.tv_run.proofs.run.OpenRun.first_to_bounce.Goals as goal
 
 pub opened-requires : goal.opened-requires

@@ -1,4 +1,4 @@
-use Rattle.tv_run.proofs.OfNumbering.{followed}
+use Rattle.tv_run.proofs.Numbering.{followed}
 use Rattle.tv_run.proofs.run.OpenRun.follow.Goals as goal
 
 pub returns : goal.returns

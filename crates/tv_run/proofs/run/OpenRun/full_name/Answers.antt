@@ -1,8 +1,8 @@
 use Rattle.std.specs.Prelude.{[], Some, ◌++◌, ◌∷◌}
 use Rattle.std.proofs.Common.{ap, sym, ◌∙◌}
 use Rattle.tv_value.specs.Values.{JobName}
-use Rattle.tv_forest.specs.seats.Seated.{spot_of}
-use Rattle.tv_run.proofs.OfJobs.{known, name-there}
+use Rattle.tv_instances.specs.seats.Seated.{spot_of}
+use Rattle.tv_run.proofs.JobLemmas.{known, name-there}
 use Rattle.tv_run.proofs.run.OpenRun.full_name.Goals as goal
 
 pub returns : goal.returns

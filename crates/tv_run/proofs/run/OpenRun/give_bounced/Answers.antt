@@ -2,12 +2,12 @@ use Rattle.std.proofs.Common.{◌-◌, arith, refl}
 use Rattle.std.specs.Vec.{with_item}
 use Rattle.tv_check.specs.RunViews.{run_view}
 use Rattle.tv_cell.specs.PieceValues.{piece_values}
-use Rattle.tv_instance.specs.Events.{gave}
+use Rattle.tv_model.specs.instance.Events.{gave}
 use Rattle.tv_seats.specs.Seats.{with_stage}
 use Rattle.tv_seats.specs.declared.stage.Stage.TheVariants as stage
-use Rattle.tv_open.proofs.OfSeats.{staged-jobs}
-use Rattle.tv_run.proofs.OfGiving.{bounced-due, can-follow, settled-seats, some-due, tells-then, to-bounce}
-use Rattle.tv_run.proofs.OfItself.{flow-low, number-low, open-low, open-read, plan-is, with_open}
+use Rattle.tv_instances.proofs.Seats.{staged-jobs}
+use Rattle.tv_run.proofs.Giving.{bounced-due, can-follow, settled-seats, some-due, tells-then, to-bounce}
+use Rattle.tv_run.proofs.Itself.{flow-low, number-low, open-low, open-read, plan-is, with_open}
 use Rattle.tv_run.proofs.run.OpenRun.give_bounced.Goals as goal
 
 pub flow-plan-requires : goal.flow-plan-requires

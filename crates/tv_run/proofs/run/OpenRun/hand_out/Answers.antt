@@ -1,4 +1,4 @@
-use Rattle.tv_run.proofs.OfHanding.{found-handable, found-offer, none-found}
+use Rattle.tv_run.proofs.HandingLemmas.{found-handable, found-offer, none-found}
 use Rattle.tv_run.proofs.run.OpenRun.hand_out.Goals as goal
 
 pub ticket_of-ticket-requires : goal.ticket_of-ticket-requires

@@ -1,6 +1,6 @@
 use Rattle.std.proofs.Common.{IfSome, Some, arith, length, subst, sym, ◌<◌}
 use Rattle.tv_run.specs.Jobs.{AreInRun}
-use Rattle.tv_run.proofs.OfWalkNumbers.{jobs-low, number-is}
+use Rattle.tv_run.proofs.WalkNumbers.{jobs-low, number-is}
 use Rattle.tv_run.proofs.run.OpenRun.in_run.Goals as goal
 
 pub index-requires-in-Some : goal.index-requires-in-Some

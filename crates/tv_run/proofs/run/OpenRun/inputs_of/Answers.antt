@@ -3,9 +3,9 @@ use Rattle.std.proofs.lemmas.Result.{IfOk-weaker}
 use Rattle.tv_cell.specs.PieceValues.{piece_values}
 use Rattle.tv_check.specs.RunViews.{run_view}
 use Rattle.tv_flow.specs.Flows.{Flow}
-use Rattle.tv_framing.specs.Answers.{AreInputs}
-use Rattle.tv_forest.specs.seats.Seated.{spot_of}
-use Rattle.tv_run.proofs.OfOpenJobs.{at-low, at-there, code-there, is-open, open-as, open-of, opened-as, seat-in, seat-low}
+use Rattle.tv_instances.specs.Answers.{AreInputs}
+use Rattle.tv_instances.specs.seats.Seated.{spot_of}
+use Rattle.tv_run.proofs.OpenJobs.{at-low, at-there, code-there, is-open, open-as, open-of, opened-as, seat-in, seat-low}
 use Rattle.tv_run.proofs.run.OpenRun.inputs_of.Goals as goal
 
 pub plan_of-plan-requires : goal.plan_of-plan-requires

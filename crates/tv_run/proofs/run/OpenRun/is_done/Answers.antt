@@ -1,5 +1,5 @@
 use Rattle.std.proofs.Common.{sym, ◌∙◌}
-use Rattle.tv_run.proofs.OfOver.{done-is, over-done}
+use Rattle.tv_run.proofs.OverLemmas.{done-is, over-done}
 use Rattle.tv_run.proofs.run.OpenRun.is_done.Goals as goal
 
 pub returns-clause-done : goal.returns-clause-done

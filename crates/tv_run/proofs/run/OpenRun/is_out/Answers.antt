@@ -1,6 +1,6 @@
 use Rattle.std.proofs.Common.{◌∙◌, ap, sym}
 use Rattle.tv_run.specs.Jobs.{is_at}
-use Rattle.tv_run.proofs.OfStates.{out-told}
+use Rattle.tv_run.proofs.States.{out-told}
 use Rattle.tv_run.proofs.run.OpenRun.is_out.Goals as goal
 
 pub returns-in-Some-clause-out : goal.returns-in-Some-clause-out

@@ -1,5 +1,5 @@
 use Rattle.std.proofs.Common.{arith, refl}
-use Rattle.tv_run.proofs.OfBusy.{last-low, leaves}
+use Rattle.tv_run.proofs.Busy.{last-low, leaves}
 use Rattle.tv_run.proofs.run.OpenRun.leave_last.Goals as goal
 
 pub index_mut-requires : goal.index_mut-requires

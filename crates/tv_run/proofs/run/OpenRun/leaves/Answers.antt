@@ -1,6 +1,6 @@
 use Rattle.tv_check.specs.RunViews.{run_view}
-use Rattle.tv_run.proofs.OfOutputs.{none-missing}
-use Rattle.tv_run.proofs.OfTracing.{of-main, outputs-traced}
+use Rattle.tv_run.proofs.OutputLemmas.{none-missing}
+use Rattle.tv_run.proofs.TracingLemmas.{of-main, outputs-traced}
 use Rattle.tv_run.proofs.run.OpenRun.leaves.Goals as goal
 
 pub unreachable-requires : goal.unreachable-requires

@@ -1,5 +1,5 @@
 use Rattle.std.proofs.Common.{◌∙◌}
-use Rattle.tv_run.proofs.OfLive.{none-live}
+use Rattle.tv_run.proofs.Live.{none-live}
 use Rattle.tv_run.proofs.run.OpenRun.live.Goals as goal
 
 -- src/outputs.rt:107:5

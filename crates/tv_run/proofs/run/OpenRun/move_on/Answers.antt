@@ -5,8 +5,8 @@ use Rattle.tv_gate.specs.Outcomes.{Giving}
 use Rattle.tv_run.specs.Settlements.{IsQuietRun, SettlesBusy}
 use Rattle.tv_run.specs.Standing.{StandsOpen}
 use Rattle.tv_run.specs.Turns.{MovesTo}
-use Rattle.tv_run.proofs.OfMoves.{moves-from}
-use Rattle.tv_run.proofs.OfSettled.{stays-from}
+use Rattle.tv_run.proofs.Moves.{moves-from}
+use Rattle.tv_run.proofs.Settled.{stays-from}
 use Rattle.tv_run.proofs.run.OpenRun.move_on.Goals as goal
 
 pub returns-in_err-settle_busy-clause-refused : goal.returns-in_err-settle_busy-clause-refused

@@ -1,6 +1,6 @@
 use Rattle.std.proofs.Common.{length, subst, sym, ◌<◌}
-use Rattle.tv_naming.proofs.OfTold.{got-in}
-use Rattle.tv_run.proofs.OfSteps.{code-step, code-within, plan-there}
+use Rattle.tv_naming.proofs.Told.{got-in}
+use Rattle.tv_run.proofs.Steps.{code-step, code-within, plan-there}
 use Rattle.tv_run.proofs.run.OpenRun.named_step.Goals as goal
 
 pub plan_of-plan-requires : goal.plan_of-plan-requires

@@ -4,9 +4,9 @@ use Rattle.tv_seats.specs.Firsts.{MayNest}
 use Rattle.tv_seats.specs.Seats.{room_at, step_at}
 use Rattle.tv_seats.specs.declared.stage.Stage.TheVariants as stage
 use Rattle.tv_check.specs.RunViews.{run_view}
-use Rattle.tv_open.specs.Events.{IsTaken, WaitsReady}
-use Rattle.tv_open.specs.Standing.{IsOpen}
-use Rattle.tv_run.proofs.OfTaking.{flow-low, its-code, number-low, open-low, open-read, open-set, nest-due, plan-is, read-is, seats-are, some-due, takes-in}
+use Rattle.tv_instances.specs.Events.{IsTaken, WaitsReady}
+use Rattle.tv_instances.specs.Standing.{IsOpen}
+use Rattle.tv_run.proofs.Taking.{flow-low, its-code, number-low, open-low, open-read, open-set, nest-due, plan-is, read-is, seats-are, some-due, takes-in}
 use Rattle.tv_run.proofs.run.OpenRun.nest.Goals as goal
 
 pub flow-plan-requires : goal.flow-plan-requires

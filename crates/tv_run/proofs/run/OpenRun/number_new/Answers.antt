@@ -1,8 +1,8 @@
 use Rattle.std.specs.Prelude.{◌≡◌, ◌<◌, length}
 use Rattle.std.proofs.Common.{ap, arith, subst, ◌∙◌}
-use Rattle.tv_open.specs.declared.open.Open.{Open}
+use Rattle.tv_instances.specs.declared.open.Open.{Open}
 use Rattle.tv_run.specs.declared.instances.Instance.{Instance}
-use Rattle.tv_run.proofs.OfNumbering.{all-numbered, can-number, found, known-open, none-yet, one-numbered}
+use Rattle.tv_run.proofs.Numbering.{all-numbered, can-number, found, known-open, none-yet, one-numbered}
 use Rattle.tv_run.proofs.run.OpenRun.number_new.Goals as goal
 
 pub loop-number-init : goal.loop-number-init

@@ -1,4 +1,4 @@
-use Rattle.tv_run.proofs.OfNumbering.{AreNumbering}
+use Rattle.tv_run.proofs.Numbering.{AreNumbering}
 use Rattle.tv_run.proofs.run.OpenRun.number_new.Given as goal
 
 abbrev pub invariant-loop-number : goal.invariant-loop-number

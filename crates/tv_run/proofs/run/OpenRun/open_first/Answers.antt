@@ -3,7 +3,7 @@ use Rattle.tv_gate.specs.Outcomes.{Giving}
 use Rattle.tv_run.specs.Settlements.{GoesOnFirst, IsQuietRun}
 use Rattle.tv_run.specs.Standing.{StandsOpen}
 use Rattle.tv_run.specs.Turns.{SettlesTo}
-use Rattle.tv_run.proofs.OfFlowsFirst.{goes-first, nothing-goes}
+use Rattle.tv_run.proofs.FlowsFirst.{goes-first, nothing-goes}
 use Rattle.tv_run.proofs.run.OpenRun.open_first.Goals as goal
 
 pub open_next-requires : goal.open_next-requires

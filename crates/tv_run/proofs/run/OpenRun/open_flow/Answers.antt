@@ -5,17 +5,17 @@ use Rattle.tv_lemmas.proofs.Options.{on-err}
 use Rattle.tv_lemmas.proofs.Lists.{in-front}
 use Rattle.tv_check.specs.RunViews.{run_view}
 use Rattle.tv_cell.specs.PieceValues.{piece_values}
-use Rattle.tv_entries.specs.declared.entry.Entry.TheVariants as entry
+use Rattle.tv_history.specs.declared.entry.Entry.TheVariants as entry
 use Rattle.tv_seats.specs.declared.stage.Stage.TheVariants as stage
 use Rattle.tv_run.specs.Changes.{TakesIn}
 use Rattle.tv_run.specs.Looks.{OpensNumber}
 use Rattle.tv_run.specs.Rooms.{IsNoted}
 use Rattle.tv_run.specs.Settlements.{opened_flow}
-use Rattle.tv_run.proofs.OfItself.{number-low, open-low}
-use Rattle.tv_run.proofs.OfFlowsOpened.{opens-settles}
-use Rattle.tv_run.proofs.OfNestRooms.{nest-room, roomy, step-leveled, with_room}
-use Rattle.tv_run.proofs.OfOpening as opens
-use Rattle.tv_run.proofs.OfRooms.{before-then, stays-before}
+use Rattle.tv_run.proofs.Itself.{number-low, open-low}
+use Rattle.tv_run.proofs.FlowsOpened.{opens-settles}
+use Rattle.tv_run.proofs.NestRooms.{nest-room, roomy, step-leveled, with_room}
+use Rattle.tv_run.proofs.Opening as opens
+use Rattle.tv_run.proofs.Rooms.{before-then, stays-before}
 use Rattle.tv_run.proofs.run.OpenRun.open_flow.Goals as goal
 
 pub known-instance-requires : goal.known-instance-requires

@@ -1,5 +1,5 @@
 use Rattle.std.proofs.Common.{sym, ◌∙◌}
-use Rattle.tv_run.proofs.OfFlowsFirst.{asks-first, known-low, opens-first, some-tries}
+use Rattle.tv_run.proofs.FlowsFirst.{asks-first, known-low, opens-first, some-tries}
 use Rattle.tv_run.proofs.run.OpenRun.open_next.Goals as goal
 
 pub tries_at-requires : goal.tries_at-requires

@@ -1,7 +1,7 @@
 use Rattle.std.proofs.Common.{sym, ◌∙◌}
-use Rattle.tv_run.proofs.OfFlowsFirst.{asks-first, known-low, opens-first, some-tries}
-use Rattle.tv_run.proofs.OfHanding.{found-handable, found-offer}
-use Rattle.tv_run.proofs.OfMoves.{offered-first}
+use Rattle.tv_run.proofs.FlowsFirst.{asks-first, known-low, opens-first, some-tries}
+use Rattle.tv_run.proofs.HandingLemmas.{found-handable, found-offer}
+use Rattle.tv_run.proofs.Moves.{offered-first}
 use Rattle.tv_run.proofs.run.OpenRun.open_or_begin.Goals as goal
 
 pub tries_at-requires : goal.tries_at-requires

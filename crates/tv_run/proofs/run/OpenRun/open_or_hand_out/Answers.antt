@@ -3,8 +3,8 @@ use Rattle.tv_gate.specs.Outcomes.{Giving}
 use Rattle.tv_run.specs.Settlements.{GoesOnFirst, IsQuietRun}
 use Rattle.tv_run.specs.Standing.{StandsOpen}
 use Rattle.tv_run.specs.Turns.{MovesTo}
-use Rattle.tv_run.proofs.OfFlowsFirst.{goes-first}
-use Rattle.tv_run.proofs.OfMoves.{rests}
+use Rattle.tv_run.proofs.FlowsFirst.{goes-first}
+use Rattle.tv_run.proofs.Moves.{rests}
 use Rattle.tv_run.proofs.run.OpenRun.open_or_hand_out.Goals as goal
 
 pub open_or_begin-requires : goal.open_or_begin-requires

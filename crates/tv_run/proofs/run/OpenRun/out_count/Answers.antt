@@ -1,5 +1,5 @@
 use Rattle.std.proofs.Common.{arith, refl, ◌∙◌}
-use Rattle.tv_run.proofs.OfOutCounts.{few-more, open-more, out-so, shut-more}
+use Rattle.tv_run.proofs.OutCounts.{few-more, open-more, out-so, shut-more}
 use Rattle.tv_run.proofs.run.OpenRun.out_count.Goals as goal
 use Rattle.tv_run.proofs.run.OpenRun.out_count.Goals.{in-Some, in_default}
 

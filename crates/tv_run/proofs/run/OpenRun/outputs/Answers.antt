@@ -4,7 +4,7 @@ use Rattle.std.proofs.Common.{ap, subst, sym, ◌∙◌}
 use Rattle.std.proofs.lemmas.Result.{IfOk-weaker}
 use Rattle.tv_cell.specs.PieceValues.{piece_values}
 use Rattle.tv_cell.specs.Soundness.{AreSound}
-use Rattle.tv_run.proofs.OfOutputs.{as-many-outputs, none-missing, outputs-meant, sound-outputs}
+use Rattle.tv_run.proofs.OutputLemmas.{as-many-outputs, none-missing, outputs-meant, sound-outputs}
 use Rattle.tv_run.proofs.run.OpenRun.outputs.Goals as goal
 
 pub named_values-requires-clause-sound : goal.named_values-requires-clause-sound

@@ -7,11 +7,11 @@ use Rattle.tv_flow.specs.Flows.{Flow}
 use Rattle.tv_check.specs.FlowPlanViews.{flow_plan_view}
 use Rattle.tv_check.specs.Plans as plans
 use Rattle.tv_check.specs.RunViews.{run_view}
-use Rattle.tv_forest.specs.Forest.{Instances}
+use Rattle.tv_instances.specs.Forest.{Instances}
 use Rattle.tv_run.specs.Standing.{Fits}
 use Rattle.tv_run.specs.declared.instances.Instance as code
 use Rattle.tv_run.specs.declared.run.OpenRun.{OpenRun}
-use Rattle.tv_run.proofs.OfSteps.{flow-there}
+use Rattle.tv_run.proofs.Steps.{flow-there}
 use Rattle.tv_run.proofs.run.OpenRun.plan_of.Goals as goal
 
 here : (r : OpenRun) (xs : Instances) → Fits r xs → (i : ℕ) → i < length xs → (c : code.Instance)

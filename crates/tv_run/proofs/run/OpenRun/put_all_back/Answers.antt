@@ -1,6 +1,6 @@
 use Rattle.std.specs.Prelude.{◌<◌, length}
 use Rattle.std.proofs.Common.{arith}
-use Rattle.tv_run.proofs.OfAllBack.{all-back, none-back, one-back, room-next}
+use Rattle.tv_run.proofs.AllBack.{all-back, none-back, one-back, room-next}
 use Rattle.tv_run.proofs.run.OpenRun.put_all_back.Goals as goal
 
 low : (c : goal.After-put_back_in-arg-1) → c.loop-at.at < length c.loop-at.self.instances.items

@@ -1,10 +1,10 @@
 use Rattle.std.specs.Vec.{with_item}
 use Rattle.std.proofs.Common.{ap, arith, refl, subst}
-use Rattle.tv_open.specs.Tries.{HasStage}
+use Rattle.tv_instances.specs.Tries.{HasStage}
 use Rattle.tv_seats.specs.declared.stage.Stage.TheVariants as stage
-use Rattle.tv_run.proofs.OfSeatRooms.{aside-room, same-open, stands-out}
-use Rattle.tv_run.proofs.OfStaged.{moves-staged}
-use Rattle.tv_run.proofs.OfTaking.{its-code, open-low, open-set, read-is}
+use Rattle.tv_run.proofs.SeatRooms.{aside-room, same-open, stands-out}
+use Rattle.tv_run.proofs.Staged.{moves-staged}
+use Rattle.tv_run.proofs.Taking.{its-code, open-low, open-set, read-is}
 use Rattle.tv_run.proofs.run.OpenRun.put_aside.Goals as goal
 
 pub index_mut-requires-2 : goal.index_mut-requires-2

@@ -2,7 +2,7 @@ use Rattle.std.specs.Prelude.{Some, vec_len}
 use Rattle.std.proofs.Common.{ap, arith, sym, ◌∙◌}
 use Rattle.std.proofs.lemmas.Bool.{eqb-true}
 use Rattle.std.proofs.lemmas.Option.{slice_get-get_or}
-use Rattle.tv_run.proofs.OfAllBack.{none-open}
+use Rattle.tv_run.proofs.AllBack.{none-open}
 use Rattle.tv_run.proofs.run.OpenRun.put_back_in.Goals as goal
 
 pub returns-else-not-is_empty : goal.returns-else-not-is_empty

@@ -2,9 +2,9 @@ use Rattle.std.specs.Prelude.{◌+◌}
 use Rattle.std.proofs.Common.{refl, sym, ◌∙◌}
 use Rattle.tv_lemmas.proofs.Options.{on-err}
 use Rattle.tv_lemmas.proofs.Numbers.{not_zero-positive}
-use Rattle.tv_run.proofs.OfAllBack.{back-then, room-stays}
-use Rattle.tv_run.proofs.OfRecalling.{all-out, nothing-out, recalls-to}
-use Rattle.tv_run.proofs.OfRooms.{before-entries, before-then, stays-before}
+use Rattle.tv_run.proofs.AllBack.{back-then, room-stays}
+use Rattle.tv_run.proofs.Recalling.{all-out, nothing-out, recalls-to}
+use Rattle.tv_run.proofs.Rooms.{before-entries, before-then, stays-before}
 use Rattle.tv_run.proofs.run.OpenRun.recall_all.Goals as goal
 
 pub returns-then-count-eq0-clause-recalled : goal.returns-then-count-eq0-clause-recalled

@@ -2,15 +2,15 @@ use Rattle.std.specs.Prelude.{[], map}
 use Rattle.std.proofs.Common.{ap, subst, sym, ◌∙◌}
 use Rattle.tv_history.specs.Histories.{is_settled_name}
 use Rattle.tv_check.specs.RunViews.{run_view}
-use Rattle.tv_entries.specs.Runs.{meant, past_of}
-use Rattle.tv_instance.specs.Events.{known_by}
+use Rattle.tv_history.specs.Runs.{meant, past_of}
+use Rattle.tv_model.specs.instance.Events.{known_by}
 use Rattle.tv_lineage.specs.Kept.{records_of}
 use Rattle.tv_lineage.specs.Members.{HaveSame}
 use Rattle.tv_traces.specs.Settled.{settled_records}
 use Rattle.tv_traces.specs.Sights.{job_view}
 use Rattle.tv_run.specs.Standing.{run_of}
-use Rattle.tv_run.proofs.OfRecording.{all-recorded, first-code, life, traced-so_far, view}
-use Rattle.tv_run.proofs.OfTracing.{levels-traced}
+use Rattle.tv_run.proofs.Recording.{all-recorded, first-code, life, traced-so_far, view}
+use Rattle.tv_run.proofs.TracingLemmas.{levels-traced}
 use Rattle.tv_run.proofs.run.OpenRun.records.Goals as goal
 
 pub opened-open-requires : goal.opened-open-requires

@@ -1,5 +1,5 @@
 use Rattle.std.proofs.Common.{arith}
-use Rattle.tv_run.proofs.OfBackRooms.{before-rooms, rooms-itself, rooms-more, rooms-then}
+use Rattle.tv_run.proofs.BackRooms.{before-rooms, rooms-itself, rooms-more, rooms-then}
 use Rattle.tv_run.proofs.run.OpenRun.reserve_all_back.Goals as goal
 
 pub loop-at-init : goal.loop-at-init

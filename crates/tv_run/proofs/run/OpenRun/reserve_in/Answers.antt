@@ -3,7 +3,7 @@ use Rattle.std.proofs.Common.{ap, arith, subst, sym, ◌∙◌}
 use Rattle.std.proofs.lemmas.Option.{same_Some}
 use Rattle.std.proofs.lemmas.Result.{on_ok_weaker}
 use Rattle.tv_run.specs.declared.instances.Instance.{Instance}
-use Rattle.tv_run.proofs.OfRooms.{at-with_jobs, rooms-after, rooms-numbers, with_numbers}
+use Rattle.tv_run.proofs.Rooms.{at-with_jobs, rooms-after, rooms-numbers, with_numbers}
 use Rattle.tv_run.proofs.run.OpenRun.reserve_in.Goals as goal
 
 pub returns-clause-same : goal.returns-clause-same

@@ -4,11 +4,11 @@ use Rattle.std.proofs.lemmas.List.{length-set}
 use Rattle.tv_cell.specs.PieceValues.{piece_values}
 use Rattle.tv_check.specs.RunViews.{run_view}
 use Rattle.tv_model.proofs.Tests.{true≠false}
-use Rattle.tv_run.proofs.OfEnding.{open-some}
-use Rattle.tv_run.proofs.OfItself.{flow-low, number-low, open-low, open-read, plan-is}
-use Rattle.tv_run.proofs.OfOuts.{again, again-low, aside, aside-open, aside-opened, stands_again, stood_again}
-use Rattle.tv_run.proofs.OfRoomed.{ready-to_give, roomed, seat-read, step-read, still-open}
-use Rattle.tv_run.proofs.OfRooms.{before-rooms, before-then}
+use Rattle.tv_run.proofs.Ending.{open-some}
+use Rattle.tv_run.proofs.Itself.{flow-low, number-low, open-low, open-read, plan-is}
+use Rattle.tv_run.proofs.Outs.{again, again-low, aside, aside-open, aside-opened, stands_again, stood_again}
+use Rattle.tv_run.proofs.Roomed.{ready-to_give, roomed, seat-read, step-read, still-open}
+use Rattle.tv_run.proofs.Rooms.{before-rooms, before-then}
 use Rattle.tv_run.proofs.run.OpenRun.room_for_outs.Goals as goal
 
 pub flow-plan-requires : goal.flow-plan-requires

@@ -3,9 +3,9 @@ use Rattle.std.specs.Vec.{with_item}
 use Rattle.std.proofs.lemmas.List.{length-set}
 use Rattle.tv_check.specs.RunViews.{run_view}
 use Rattle.tv_cell.specs.PieceValues.{piece_values}
-use Rattle.tv_run.proofs.OfItself.{flow-low, number-low, open-low, open-read, plan-is, with_open}
-use Rattle.tv_run.proofs.OfRoomed.{ready-to_give, roomed, seat-read, step-read, still-open}
-use Rattle.tv_run.proofs.OfRooms.{before-rooms, before-then}
+use Rattle.tv_run.proofs.Itself.{flow-low, number-low, open-low, open-read, plan-is, with_open}
+use Rattle.tv_run.proofs.Roomed.{ready-to_give, roomed, seat-read, step-read, still-open}
+use Rattle.tv_run.proofs.Rooms.{before-rooms, before-then}
 use Rattle.tv_run.proofs.run.OpenRun.room_for_result.Goals as goal
 
 pub flow-plan-requires : goal.flow-plan-requires

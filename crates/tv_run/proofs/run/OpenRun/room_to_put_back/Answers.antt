@@ -1,12 +1,12 @@
 use Rattle.std.specs.Vec.{with_item}
 use Rattle.std.proofs.Common.{ap, arith, refl, slice_get, sym, ◌∙◌}
 use Rattle.std.proofs.lemmas.Result.{on_ok_weaker}
-use Rattle.tv_open.specs.declared.open.Open.{Open}
+use Rattle.tv_instances.specs.declared.open.Open.{Open}
 use Rattle.tv_seats.specs.Seats.{back_room}
-use Rattle.tv_run.proofs.OfOpenSet.{open-in_set}
-use Rattle.tv_run.proofs.OfRooms.{before-entries, before-then}
-use Rattle.tv_run.proofs.OfSeatRooms.{level-there, roomier}
-use Rattle.tv_run.proofs.OfTaking.{its-code, open-low, open-set, read-is}
+use Rattle.tv_run.proofs.OpenSet.{open-in_set}
+use Rattle.tv_run.proofs.Rooms.{before-entries, before-then}
+use Rattle.tv_run.proofs.SeatRooms.{level-there, roomier}
+use Rattle.tv_run.proofs.Taking.{its-code, open-low, open-set, read-is}
 use Rattle.tv_run.proofs.run.OpenRun.room_to_put_back.Goals as goal
 
 pub index_mut-requires-2 : goal.index_mut-requires-2

@@ -3,15 +3,15 @@ use Rattle.std.specs.Prelude.{vec_capacity}
 use Rattle.tv_seats.specs.Seats.{with_stage}
 use Rattle.tv_seats.specs.declared.stage.Stage.TheVariants as stage
 use Rattle.tv_stream.proofs.Bases.{on-err}
-use Rattle.tv_forest.specs.Entries.{seated, with_instance}
+use Rattle.tv_instances.specs.Entries.{seated, with_instance}
 use Rattle.tv_run.specs.Accepting.{HasAsideRoom, MovesTo}
 use Rattle.tv_run.specs.Rooms.{IsNoted}
 use Rattle.tv_run.specs.declared.instances.Numbered.{Numbered}
-use Rattle.tv_run.proofs.OfAccepted.{accepts-again}
-use Rattle.tv_run.proofs.OfFoundOut.{found-is, open-here, out-here, step-found, step-low}
-use Rattle.tv_run.proofs.OfJudged.{its-out, wrong-asked}
-use Rattle.tv_run.proofs.OfOutcomes.{next-flow, nest-unsettled}
-use Rattle.tv_run.proofs.OfRooms.{before-itself, stays-before}
+use Rattle.tv_run.proofs.Accepted.{accepts-again}
+use Rattle.tv_run.proofs.FoundOut.{found-is, open-here, out-here, step-found, step-low}
+use Rattle.tv_run.proofs.Judged.{its-out, wrong-asked}
+use Rattle.tv_run.proofs.Outcomes.{next-flow, nest-unsettled}
+use Rattle.tv_run.proofs.Rooms.{before-itself, stays-before}
 use Rattle.tv_run.proofs.run.OpenRun.set_aside.Goals as goal
 
 pub room_to_put_aside-requires : goal.room_to_put_aside-requires

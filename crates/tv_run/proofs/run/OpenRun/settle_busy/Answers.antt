@@ -2,8 +2,8 @@ use Rattle.std.proofs.Common.{ap, arith, length, refl, subst, true, ◌≡◌}
 use Rattle.std.proofs.lemmas.List.{nil_from_length}
 use Rattle.tv_lemmas.proofs.Options.{on-err}
 use Rattle.tv_run.specs.Settlements.{SettlesLast}
-use Rattle.tv_run.proofs.OfLeft.{left-stays}
-use Rattle.tv_run.proofs.OfSettled.{quiet-run, settles-from, stays-from}
+use Rattle.tv_run.proofs.Left.{left-stays}
+use Rattle.tv_run.proofs.Settled.{quiet-run, settles-from, stays-from}
 use Rattle.tv_run.proofs.run.OpenRun.settle_busy.Goals as goal
 
 pub loop-init : goal.loop-init

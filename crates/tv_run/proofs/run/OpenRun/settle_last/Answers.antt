@@ -6,8 +6,8 @@ use Rattle.tv_gate.specs.Outcomes.{Giving}
 use Rattle.tv_model.proofs.Tests.{true≠false}
 use Rattle.tv_run.specs.Settlements.{IsOpenIn, SettlesIn, SettlesLast}
 use Rattle.tv_run.specs.Standing.{StandsOpen}
-use Rattle.tv_run.proofs.OfLasts.{ended-still, last-low, open-last, settles-last, some-there}
-use Rattle.tv_run.proofs.OfRooms.{before-itself}
+use Rattle.tv_run.proofs.Lasts.{ended-still, last-low, open-last, settles-last, some-there}
+use Rattle.tv_run.proofs.Rooms.{before-itself}
 use Rattle.tv_run.proofs.run.OpenRun.settle_last.Goals as goal
 
 pub index-requires : goal.index-requires

@@ -1,9 +1,9 @@
 use Rattle.std.proofs.Common.{subst}
 use Rattle.tv_stream.proofs.Bases.{on-err}
 use Rattle.tv_run.specs.Rooms.{IsNoted}
-use Rattle.tv_run.proofs.OfLevelSettled.{here-then, level-settled, open-low, ready-here}
-use Rattle.tv_run.proofs.OfRooms.{before-rooms, stays-before}
-use Rattle.tv_run.proofs.OfSettlings.{entry-room}
+use Rattle.tv_run.proofs.LevelSettled.{here-then, level-settled, open-low, ready-here}
+use Rattle.tv_run.proofs.Rooms.{before-rooms, stays-before}
+use Rattle.tv_run.proofs.Settlings.{entry-room}
 use Rattle.tv_run.proofs.run.OpenRun.settle_level.Goals as goal
 
 pub reserve_in-requires : goal.reserve_in-requires

@@ -5,7 +5,7 @@ use Rattle.tv_gate.specs.Outcomes.{Giving}
 use Rattle.tv_run.specs.Settlements.{IsQuietRun, SettlesBusy}
 use Rattle.tv_run.specs.Standing.{StandsOpen}
 use Rattle.tv_run.specs.Turns.{SettlesTo}
-use Rattle.tv_run.proofs.OfSettled.{settles-from, stays-from}
+use Rattle.tv_run.proofs.Settled.{settles-from, stays-from}
 use Rattle.tv_run.proofs.run.OpenRun.settle_one.Goals as goal
 
 pub returns-in_err-settle_busy-clause-refused : goal.returns-in_err-settle_busy-clause-refused

@@ -4,12 +4,12 @@ use Rattle.std.proofs.lemmas.Result.{IfOk-weaker, on_err_weaker}
 use Rattle.std.specs.Vec.{with_item}
 use Rattle.tv_check.specs.RunViews.{run_view}
 use Rattle.tv_stream.proofs.Bases.{on-err}
-use Rattle.tv_run.proofs.OfItself.{flow-low, open-low, with_open}
-use Rattle.tv_run.proofs.OfLevelSettled as level
-use Rattle.tv_run.proofs.OfLevelSettled.{ends-or_still, its-open, level-ready, none-settles, open-then, room-taken, settled-from, stays-after}
-use Rattle.tv_run.proofs.OfRooms.{stays-before}
+use Rattle.tv_run.proofs.Itself.{flow-low, open-low, with_open}
+use Rattle.tv_run.proofs.LevelSettled as level
+use Rattle.tv_run.proofs.LevelSettled.{ends-or_still, its-open, level-ready, none-settles, open-then, room-taken, settled-from, stays-after}
+use Rattle.tv_run.proofs.Rooms.{stays-before}
 use Rattle.tv_run.proofs.run.OpenRun.settle_or_end.Goals as goal
-use Rattle.tv_run.proofs.OfBouncing.{open-here}
+use Rattle.tv_run.proofs.Bouncing.{open-here}
 
 pub flow-plan-requires : goal.flow-plan-requires
 flow-plan-requires c =

@@ -1,17 +1,17 @@
 use Rattle.std.proofs.Common.{ap, arith, length, subst}
 use Rattle.std.specs.Prelude.{vec_capacity}
 use Rattle.tv_cell.specs.PieceValues.{piece_values}
-use Rattle.tv_instance.specs.Events.{gave}
+use Rattle.tv_model.specs.instance.Events.{gave}
 use Rattle.tv_seats.specs.Seats.{with_stage}
 use Rattle.tv_seats.specs.declared.stage.Stage.TheVariants as stage
 use Rattle.tv_stream.proofs.Bases.{on-err}
 use Rattle.tv_run.specs.Changes.{TellsIn}
 use Rattle.tv_run.specs.Rooms.{HasRoomIn, IsNoted}
 use Rattle.tv_run.specs.declared.instances.Numbered.{Numbered}
-use Rattle.tv_run.proofs.OfAccepted.{goes-to_but, settled-job}
-use Rattle.tv_run.proofs.OfFoundOut.{found-is, given-here, seat-here}
-use Rattle.tv_run.proofs.OfGiven.{may-give, settles-asked}
-use Rattle.tv_run.proofs.OfRooms.{before-itself, stays-before}
+use Rattle.tv_run.proofs.Accepted.{goes-to_but, settled-job}
+use Rattle.tv_run.proofs.FoundOut.{found-is, given-here, seat-here}
+use Rattle.tv_run.proofs.Given.{may-give, settles-asked}
+use Rattle.tv_run.proofs.Rooms.{before-itself, stays-before}
 use Rattle.tv_run.proofs.run.OpenRun.settle_with.Goals as goal
 
 pub room_for_result-requires-clause-may : goal.room_for_result-requires-clause-may

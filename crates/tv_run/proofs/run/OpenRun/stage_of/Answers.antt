@@ -1,12 +1,12 @@
 use Rattle.std.proofs.Common.{arith, length, refl, slice_get, sym, ◌<◌, ◌≡◌, ◌∙◌}
 use Rattle.std.proofs.lemmas.Option.{slice_get_read}
 use Rattle.std.specs.Prelude.{Some}
-use Rattle.tv_forest.specs.Forest.{Instances}
+use Rattle.tv_instances.specs.Forest.{Instances}
 use Rattle.tv_run.specs.Standing.{Fits}
 use Rattle.tv_run.specs.declared.instances.Numbered.{Numbered}
 use Rattle.tv_run.specs.declared.run.OpenRun.{OpenRun}
 use Rattle.std.specs.Prelude.{ℕ}
-use Rattle.tv_run.proofs.OfJobs.{instance-low, known-at, stage-by_end, stage-by_open, stage-found}
+use Rattle.tv_run.proofs.JobLemmas.{instance-low, known-at, stage-by_end, stage-by_open, stage-found}
 use Rattle.tv_run.proofs.run.OpenRun.stage_of.Goals as goal
 
 low : (r : OpenRun) (w : (xs : Instances) × Fits r xs) (k : ℕ) (m : Numbered) → slice_get r.jobs.items k ≡ Some m

@@ -2,8 +2,8 @@ use Rattle.std.specs.Prelude.{[], map, slice_get}
 use Rattle.std.proofs.Common.{ap, subst, sym, ◌∙◌}
 use Rattle.tv_cell.specs.PieceValues.{piece_values}
 use Rattle.tv_check.specs.RunViews.{run_view}
-use Rattle.tv_forest.specs.runs.Stated.{IsMainFlow}
-use Rattle.tv_run.proofs.OfStarting.{given-values, main-can, main-open, main-there}
+use Rattle.tv_instances.specs.runs.Stated.{IsMainFlow}
+use Rattle.tv_run.proofs.Starting.{given-values, main-can, main-open, main-there}
 use Rattle.tv_run.proofs.run.OpenRun.start.Goals as goal
 
 pub add_instance-requires-clause-fits : goal.add_instance-requires-clause-fits

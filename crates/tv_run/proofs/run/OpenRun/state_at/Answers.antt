@@ -1,6 +1,6 @@
 use Rattle.std.proofs.Common.{Some, ◌∙◌, ap, sym}
 use Rattle.tv_seats.specs.declared.stage.Stage.TheVariants as stage
-use Rattle.tv_run.proofs.OfStates.{state-at}
+use Rattle.tv_run.proofs.States.{state-at}
 use Rattle.tv_run.proofs.run.OpenRun.state_at.Goals as goal
 
 pub returns-in-Out : goal.returns-in-Out

@@ -1,5 +1,5 @@
 use Rattle.std.proofs.Common.{◌∙◌, sym}
-use Rattle.tv_run.proofs.OfStates.{no-state}
+use Rattle.tv_run.proofs.States.{no-state}
 use Rattle.tv_run.proofs.run.OpenRun.state_of.Goals as goal
 
 pub returns-in-None : goal.returns-in-None

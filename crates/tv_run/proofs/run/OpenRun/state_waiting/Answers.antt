@@ -1,9 +1,9 @@
 use Rattle.std.specs.Prelude.{if◌then◌else◌, slice_get}
 use Rattle.std.proofs.Common.{◌<◌, ◌∙◌, ap, length, subst, sym}
 use Rattle.tv_check.specs.RunViews.{run_view}
-use Rattle.tv_entries.specs.declared.ticket.JobState.TheVariants as state
-use Rattle.tv_run.proofs.OfOpenJobs.{at-low, at-there, code-there, is-open, opened-as, seat-low, step-in, step-low}
-use Rattle.tv_run.proofs.OfStates.{waiting-now}
+use Rattle.tv_history.specs.declared.ticket.JobState.TheVariants as state
+use Rattle.tv_run.proofs.OpenJobs.{at-low, at-there, code-there, is-open, opened-as, seat-low, step-in, step-low}
+use Rattle.tv_run.proofs.States.{waiting-now}
 use Rattle.tv_run.proofs.run.OpenRun.state_waiting.Goals as goal
 
 pub opened-open-requires : goal.opened-open-requires

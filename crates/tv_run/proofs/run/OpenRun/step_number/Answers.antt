@@ -1,6 +1,6 @@
 use Rattle.std.specs.Prelude.{Some}
 use Rattle.std.proofs.Common.{ap, arith, sym, ◌∙◌}
-use Rattle.tv_run.proofs.OfSteps.{code-low, seats-within, step-read}
+use Rattle.tv_run.proofs.Steps.{code-low, seats-within, step-read}
 use Rattle.tv_run.proofs.run.OpenRun.step_number.Goals as goal
 
 pub index-requires : goal.index-requires

@@ -3,9 +3,9 @@ use Rattle.std.specs.Vec.{with_item}
 use Rattle.tv_seats.specs.Firsts.{MayGoOut}
 use Rattle.tv_seats.specs.declared.stage.Stage.TheVariants as stage
 use Rattle.tv_check.specs.RunViews.{run_view}
-use Rattle.tv_open.specs.Events.{IsTaken, WaitsReady}
-use Rattle.tv_open.specs.Standing.{IsOpen}
-use Rattle.tv_run.proofs.OfTaking.{flow-low, its-code, number-low, open-low, open-read, open-set, out-due, plan-is, read-is, seats-are, some-due, takes-in}
+use Rattle.tv_instances.specs.Events.{IsTaken, WaitsReady}
+use Rattle.tv_instances.specs.Standing.{IsOpen}
+use Rattle.tv_run.proofs.Taking.{flow-low, its-code, number-low, open-low, open-read, open-set, out-due, plan-is, read-is, seats-are, some-due, takes-in}
 use Rattle.tv_run.proofs.run.OpenRun.take_out.Goals as goal
 
 pub flow-plan-requires : goal.flow-plan-requires

@@ -1,7 +1,7 @@
 use Rattle.std.proofs.Common.{Some, ◌∙◌, ap, map, refl, sym}
-use Rattle.tv_entries.specs.Answers.{question}
-use Rattle.tv_run.proofs.OfAskedOut.{asked-now}
-use Rattle.tv_run.proofs.OfTasks.{declared-there, is-task, outputs-are}
+use Rattle.tv_history.specs.Answers.{question}
+use Rattle.tv_run.proofs.AskedOut.{asked-now}
+use Rattle.tv_run.proofs.TaskLemmas.{declared-there, is-task, outputs-are}
 use Rattle.tv_run.proofs.run.OpenRun.task_of.Goals as goal
 
 pub returns-clause-task : goal.returns-clause-task

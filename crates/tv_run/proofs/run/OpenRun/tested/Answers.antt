@@ -1,6 +1,6 @@
 use Rattle.std.proofs.Common.{◌∙◌, subst, sym}
 use Rattle.tv_lemmas.proofs.Options.{not_some-none}
-use Rattle.tv_entries.specs.Answers.{question}
+use Rattle.tv_history.specs.Answers.{question}
 use Rattle.tv_run.specs.Accepting.{IsAnswerTo}
 use Rattle.tv_run.specs.Standing.{run_of}
 use Rattle.tv_run.proofs.run.OpenRun.tested.Goals as goal

@@ -1,5 +1,5 @@
 use Rattle.std.proofs.Common.{Some, ap, refl, sym, ◌∙◌}
-use Rattle.tv_run.proofs.OfWalkTickets.{next-idle, offer-either, offer-stage}
+use Rattle.tv_run.proofs.WalkTickets.{next-idle, offer-either, offer-stage}
 use Rattle.tv_run.proofs.run.OpenRun.ticket_of.Goals as goal
 
 pub unreachable-requires : goal.unreachable-requires

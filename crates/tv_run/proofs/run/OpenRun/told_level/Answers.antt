@@ -1,8 +1,8 @@
 use Rattle.std.proofs.Common.{ap, arith, refl, ◌∙◌}
 use Rattle.std.specs.Vec.{with_item}
 use Rattle.tv_check.specs.RunViews.{run_view}
-use Rattle.tv_run.proofs.OfGiving.{can-follow, tells-then, to-settle}
-use Rattle.tv_run.proofs.OfItself.{flow-low, number-low, open-low, open-read, plan-is, seats-are, steps-same, with_open}
+use Rattle.tv_run.proofs.Giving.{can-follow, tells-then, to-settle}
+use Rattle.tv_run.proofs.Itself.{flow-low, number-low, open-low, open-read, plan-is, seats-are, steps-same, with_open}
 use Rattle.tv_run.proofs.run.OpenRun.told_level.Goals as goal
 
 pub flow-plan-requires : goal.flow-plan-requires

@@ -1,7 +1,7 @@
 use Rattle.std.specs.Prelude.{count_by}
 use Rattle.std.proofs.Common.{ap, ◌∙◌}
-use Rattle.tv_entries.specs.Counted.{is_acceptance, is_bounce}
-use Rattle.tv_run.proofs.OfTotals.{totals-are}
+use Rattle.tv_history.specs.Counted.{is_acceptance, is_bounce}
+use Rattle.tv_run.proofs.Totals.{totals-are}
 use Rattle.tv_run.proofs.run.OpenRun.totals.Goals as goal
 
 pub returns : goal.returns

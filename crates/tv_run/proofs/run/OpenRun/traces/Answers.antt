@@ -1,8 +1,8 @@
 use Rattle.std.proofs.lemmas.Result.{IfOk-weaker}
 use Rattle.tv_check.specs.RunViews.{run_view}
 use Rattle.tv_flow.specs.Views.{flow_view}
-use Rattle.tv_run.proofs.OfOutputs.{none-missing}
-use Rattle.tv_run.proofs.OfTracing.{levels-traced}
+use Rattle.tv_run.proofs.OutputLemmas.{none-missing}
+use Rattle.tv_run.proofs.TracingLemmas.{levels-traced}
 use Rattle.tv_run.proofs.run.OpenRun.traces.Goals as goal
 
 pub unreachable-requires : goal.unreachable-requires

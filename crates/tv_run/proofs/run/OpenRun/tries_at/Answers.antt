@@ -1,4 +1,4 @@
-use Rattle.tv_run.proofs.OfSteps.{tries-are, tries-there}
+use Rattle.tv_run.proofs.Steps.{tries-are, tries-there}
 use Rattle.tv_run.proofs.run.OpenRun.tries_at.Goals as goal
 
 pub tries_of-requires : goal.tries_of-requires

@@ -1,6 +1,6 @@
 use Rattle.std.proofs.Common.{arith, length, refl, subst, sym, ◌<◌}
 use Rattle.std.proofs.lemmas.Option.{slice_get_read, slice_get_within}
-use Rattle.tv_run.proofs.OfSteps.{look-low, step-look, step-low}
+use Rattle.tv_run.proofs.Steps.{look-low, step-look, step-low}
 use Rattle.tv_run.proofs.run.OpenRun.tries_of.Goals as goal
 
 pub index-requires : goal.index-requires

@@ -3,7 +3,7 @@ use Rattle.std.specs.Prelude.{Vec, vec_capacity, ℕ}
 use Rattle.std.specs.Global.{Global}
 use Rattle.std.proofs.lemmas.List.{get_or-set_same}
 use Rattle.std.proofs.lemmas.Result.{on_err_weaker, on_ok_weaker}
-use Rattle.tv_ready.specs.Listed.{Listed}
+use Rattle.tv_idle.specs.Listed.{Listed}
 use Rattle.tv_seats.specs.Kept.{all_aside_rooms}
 use Rattle.tv_seats.specs.Seats.{Seated, room_at}
 use Rattle.tv_seats.proofs.Keeping.{many-all, reserved-kept, roomy-step, set-all, set-kept}

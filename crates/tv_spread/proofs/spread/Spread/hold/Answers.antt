@@ -1,15 +1,15 @@
 use Rattle.std.proofs.Common.{◌≡◌, ◌<◌, length, get_or, arith, ap, sym, subst, ◌∙◌}
 use Rattle.std.specs.Prelude.{sum_by}
 use Rattle.tv_lemmas.specs.Members.{Each}
-use Rattle.tv_strategy.proofs.OfEach.{each-weaken}
+use Rattle.tv_strategy.proofs.Each.{each-weaken}
 use Rattle.tv_idle.specs.Idles.{of_step}
 use Rattle.tv_intake.specs.Intaken.{CanShow, HasRoom, brought_at, matcher_at}
 use Rattle.tv_intake.specs.Sorting.{jobs_among}
-use Rattle.tv_intake.proofs.OfIntakes.{shown-within}
+use Rattle.tv_intake.proofs.IntakeLemmas.{shown-within}
 use Rattle.tv_spread.specs.Arounds.{told_steps}
 use Rattle.tv_spread.specs.Spreads.{new_faulty, new_good}
 use Rattle.tv_spread.proofs.Lists.{each-at}
-use Rattle.tv_spread.proofs.OfReserving.{all-ready, matcher-same, steps-below, told-shown}
+use Rattle.tv_spread.proofs.Reserving.{all-ready, matcher-same, steps-below, told-shown}
 use Rattle.tv_spread.proofs.spread.Spread.hold.Goals as goal
 
 pub make_room-requires-clause-steps : goal.make_room-requires-clause-steps

@@ -1,7 +1,7 @@
 use Rattle.std.proofs.Common.{◌++◌, ◌∙◌, map}
 use Rattle.std.specs.Prelude.{flat_map}
 use Rattle.tv_telling.specs.Views.{way_tellings, whole_telling}
-use Rattle.tv_spread.proofs.OfHolding.{can-shown}
+use Rattle.tv_spread.proofs.Holding.{can-shown}
 use Rattle.tv_spread.proofs.spread.Spread.hold_found.Goals as goal
 
 pub returns-clause-can : goal.returns-clause-can

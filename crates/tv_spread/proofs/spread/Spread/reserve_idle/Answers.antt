@@ -2,7 +2,7 @@ use Rattle.std.proofs.Common.{◌≡◌, ◌<◌, ℕ, length, get_or, arith, ap
 use Rattle.tv_idle.specs.Idles.{StepIdle, of_step}
 use Rattle.tv_spread.specs.Spreads.{new_faulty, new_good}
 use Rattle.tv_spread.proofs.Lists.{each-at, each-next}
-use Rattle.tv_spread.proofs.OfReserving.{reserved-each, reserved-rooms, rooms-none}
+use Rattle.tv_spread.proofs.Reserving.{reserved-each, reserved-rooms, rooms-none}
 use Rattle.tv_spread.proofs.spread.Spread.reserve_idle.Goals as goal
 
 pub loop-step-init : goal.loop-step-init

@@ -2,8 +2,8 @@ use Rattle.std.proofs.Common.{◌≡◌, ◌<◌, ◌+◌, ◌++◌, ◌∷◌, 
 use Rattle.tv_intake.specs.Intaken.{known_jobs}
 use Rattle.tv_spread.specs.Spreads.{is_faulty_now, with_all_new}
 use Rattle.tv_spread.proofs.Lists.{drop-at, take-at}
-use Rattle.tv_spread.proofs.OfAdding.{Adding}
-use Rattle.tv_spread.proofs.OfShowing.{Showing, Shows, can-add, showing-more, showing-none}
+use Rattle.tv_spread.proofs.AddingLemmas.{Adding}
+use Rattle.tv_spread.proofs.Showing.{Showing, Shows, can-add, showing-more, showing-none}
 use Rattle.tv_spread.proofs.spread.Spread.show.Goals as goal
 
 pub loop-step-init : goal.loop-step-init

@@ -1,5 +1,5 @@
 use Rattle.std.proofs.Common.{drop, take}
-use Rattle.tv_spread.proofs.OfShowing.{Showing}
+use Rattle.tv_spread.proofs.Showing.{Showing}
 use Rattle.tv_spread.proofs.spread.Spread.show.Given as goal
 
 abbrev pub invariant-loop-step : goal.invariant-loop-step

@@ -5,13 +5,13 @@ use Rattle.tv_lemmas.specs.Members.{Each}
 use Rattle.tv_matching.specs.Items.{if_so}
 use Rattle.tv_telling.specs.declared.ways.Way.{Way}
 use Rattle.tv_telling.specs.Views.{HasOutput}
-use Rattle.tv_wires.specs.declared.wires.Wire.{Wire}
+use Rattle.tv_check.specs.declared.wires.Wire.{Wire}
 use Rattle.tv_intake.specs.Intaken.{CanShow, matcher_at}
 use Rattle.tv_telling.specs.Along.{is_walked, way_of}
 use Rattle.tv_spread.specs.Arounds.{tellings_by, tells_some, told_at, ways_at}
 use Rattle.tv_spread.specs.Spreads.{CanHoldThese, HoldsAt}
-use Rattle.tv_spread.proofs.OfHolding.{Telling, can-hold, hold-told, no-first, not-yet, telling-more, telling-none, there, told-all, ways-here}
-use Rattle.tv_spread.proofs.OfTold.{ways-have}
+use Rattle.tv_spread.proofs.Holding.{Telling, can-hold, hold-told, no-first, not-yet, telling-more, telling-none, there, told-all, ways-here}
+use Rattle.tv_spread.proofs.Told.{ways-have}
 use Rattle.tv_spread.proofs.spread.Spread.tell_all.Goals as goal
 
 pub loop-first-init : goal.loop-first-init

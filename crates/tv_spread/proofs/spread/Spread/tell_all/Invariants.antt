@@ -1,5 +1,5 @@
 use Rattle.std.proofs.Common.{length}
-use Rattle.tv_spread.proofs.OfHolding.{Telling}
+use Rattle.tv_spread.proofs.Holding.{Telling}
 use Rattle.tv_spread.proofs.spread.Spread.tell_all.Given as goal
 
 abbrev pub invariant-loop-first : goal.invariant-loop-first

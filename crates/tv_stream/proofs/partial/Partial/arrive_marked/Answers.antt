@@ -1,8 +1,8 @@
 use Rattle.std.proofs.Common.{ℕ, Option, ◌≤◌, ◌+◌, ap, ◌∙◌, subst, length}
 use Rattle.std.proofs.lemmas.Result.{IfOk-weaker, IfErr-weaker, IfOk-at_ok, on_ok_weaker}
 use Rattle.tv_pool.specs.Pool.{number_of, lies_at}
-use Rattle.tv_nodes.specs.Stands.{Spot}
-use Rattle.tv_nodes.specs.Calls.{count_in}
+use Rattle.tv_stream.specs.nodes.Stands.{Spot}
+use Rattle.tv_stream.specs.nodes.Calls.{count_in}
 use Rattle.tv_stream.specs.Trees.{least_whole, tree_of, tree_at}
 use Rattle.tv_stream.specs.Answers.{marked_item}
 use Rattle.tv_stream.specs.Inside.{InTree, RefusesArrivalIn}

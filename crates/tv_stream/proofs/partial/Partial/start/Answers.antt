@@ -2,7 +2,7 @@ use Rattle.std.proofs.Common.{sym, subst, refl}
 use Rattle.std.specs.Result.{IfOk}
 use Rattle.std.proofs.lemmas.Result.{IfOk-weaker}
 use Rattle.tv_pool.specs.Pool.{item_in, number_of, slot_of}
-use Rattle.tv_nodes.specs.Calls.{Plants}
+use Rattle.tv_stream.specs.nodes.Calls.{Plants}
 use Rattle.tv_stream.specs.declared.partial.Partial.{Partial as Handle}
 use Rattle.tv_stream.specs.Stands.{Starts}
 use Rattle.tv_stream.proofs.Calls.{starts}

@@ -1,7 +1,7 @@
 use Rattle.std.proofs.Common.{map}
-use Rattle.tv_levels.specs.Views.{level_view}
+use Rattle.tv_frame.specs.Views.{level_view}
 use Rattle.tv_traces.specs.Sights.{job_view}
-use Rattle.tv_traces.proofs.OfSights.{sight-so_far}
+use Rattle.tv_traces.proofs.Sights.{sight-so_far}
 use Rattle.tv_traces.proofs.sight.Sight.so_far.Goals as goal
 
 pub returns : goal.returns

@@ -1,7 +1,7 @@
 use Rattle.std.proofs.Common.{map}
-use Rattle.tv_levels.specs.Views.{level_view}
-use Rattle.tv_traces.proofs.OfGrowing.{none-at}
-use Rattle.tv_traces.proofs.OfSights.{whole-sight}
+use Rattle.tv_frame.specs.Views.{level_view}
+use Rattle.tv_traces.proofs.GrowingLemmas.{none-at}
+use Rattle.tv_traces.proofs.Sights.{whole-sight}
 use Rattle.tv_traces.proofs.sight.Sight.whole.Goals as goal
 
 pub returns : goal.returns

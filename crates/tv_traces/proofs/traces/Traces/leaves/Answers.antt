@@ -5,7 +5,7 @@ use Rattle.tv_lineage.specs.Views.{leaf_view}
 use Rattle.tv_traces.specs.Feeds.{feed_marks}
 use Rattle.tv_traces.specs.Leaves.{leaf_places}
 use Rattle.tv_traces.specs.Views.{shapes_view}
-use Rattle.tv_traces.proofs.OfUsed.{in-outputs, leaves-all, leaves-next}
+use Rattle.tv_traces.proofs.UsedLemmas.{in-outputs, leaves-all, leaves-next}
 use Rattle.tv_traces.proofs.traces.Traces.leaves.Goals as goal
 
 pub loop-number-preserved : goal.loop-number-preserved

@@ -5,7 +5,7 @@ use Rattle.tv_flow.specs.Views.{flow_view}
 use Rattle.tv_cell.specs.PieceValues.{piece_values}
 use Rattle.tv_lineage.specs.Views.{leaf_view}
 use Rattle.tv_traces.specs.Traced.{AreTraces}
-use Rattle.tv_traces.proofs.OfUsed.{leaves_until, plain_values}
+use Rattle.tv_traces.proofs.UsedLemmas.{leaves_until, plain_values}
 use Rattle.tv_traces.proofs.traces.Traces.leaves.Given as goal
 
 abbrev pub invariant-loop-number : goal.invariant-loop-number

@@ -1,5 +1,5 @@
 use Rattle.std.proofs.Common.{true}
-use Rattle.tv_traces.proofs.OfStart.{all-traced}
+use Rattle.tv_traces.proofs.Start.{all-traced}
 use Rattle.tv_traces.proofs.traces.Traces.start.Goals as goal
 
 pub returns : goal.returns

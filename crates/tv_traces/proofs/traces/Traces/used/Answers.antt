@@ -8,7 +8,7 @@ use Rattle.tv_model.specs.records.Recorded.{marks_of}
 use Rattle.tv_traces.specs.Feeds.{feed_marks}
 use Rattle.tv_naming.specs.Numbers.{position}
 use Rattle.tv_traces.specs.Views.{shapes_view}
-use Rattle.tv_traces.proofs.OfUsed.{has-value, in-outputs, none-named, not-there, used-there}
+use Rattle.tv_traces.proofs.UsedLemmas.{has-value, in-outputs, none-named, not-there, used-there}
 use Rattle.tv_traces.proofs.traces.Traces.used.Goals as goal
 
 pub returns-in_default : goal.returns-in_default

@@ -1,7 +1,7 @@
 use Rattle.std.proofs.Common.{ap, sym, ◌∙◌, Some, arith}
 use Rattle.tv_value.specs.Nested.{item_at}
 use Rattle.tv_value.specs.Views.{view}
-use Rattle.tv_value.proofs.OfItems.{items_view-each}
+use Rattle.tv_value.proofs.ItemLemmas.{items_view-each}
 use Rattle.tv_value.proofs.Looking.{item_at-each, item_at-past}
 use Rattle.tv_value.proofs.value.Items.item.Goals as goal
 

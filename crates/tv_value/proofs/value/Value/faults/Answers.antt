@@ -3,7 +3,7 @@ use Rattle.tv_value.specs.Nested.{leaves}
 use Rattle.tv_value.specs.Values.{makers_of}
 use Rattle.tv_value.specs.Orders.{job_name_cmp, put_all}
 use Rattle.tv_value.specs.Views.{view}
-use Rattle.tv_value.proofs.OfFaults.{put_all-nothing}
+use Rattle.tv_value.proofs.Faults.{put_all-nothing}
 use Rattle.tv_value.proofs.value.Value.faults.Goals as goal
 
 pub returns : goal.returns

@@ -1,5 +1,0 @@
-use Rattle.tv_agreement.proofs.Planned.{meanings-planned}
-use Rattle.tv_agreement.proofs.meanings_are_as_planned.Goals as goal
-
-pub returns : goal.returns
-returns c = λ gives d f a. meanings-planned gives d f a

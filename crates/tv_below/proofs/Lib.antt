@@ -1,4 +1,0 @@
-pub mod Holding
-pub mod OfFeeds
-pub mod OfShown
-pub mod OfExact

@@ -1,4 +1,0 @@
-pub mod OfRegions
-pub mod OfFrames
-pub mod OfTheirs
-pub mod nodes

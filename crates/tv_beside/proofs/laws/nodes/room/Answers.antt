@@ -1,5 +1,0 @@
-use Rattle.tv_beside.proofs.nodes.Room.{nodes-fit_steps}
-use Rattle.tv_beside.proofs.laws.nodes.room.Goals as goal
-
-pub returns : goal.returns
-returns c = nodes-fit_steps

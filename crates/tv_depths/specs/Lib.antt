@@ -1,4 +1,0 @@
-pub mod Cycles
-pub mod Depthwise
-pub mod Measured
-pub mod Tables

@@ -1,7 +1,0 @@
-use Rattle.std.specs.List.{list_any}
-use Rattle.std.proofs.Common.{◌≡◌, false, take}
-use Rattle.tv_endings.specs.Feeds.{link_from}
-use Rattle.tv_endings.proofs.ports.some_is_from.Given as goal
-
-abbrev pub invariant-loop-link : goal.invariant-loop-link
-invariant-loop-link l = list_any (link_from l.step) (take l.link-index l.links) ≡ false

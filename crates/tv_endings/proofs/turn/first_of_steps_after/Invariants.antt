@@ -1,8 +1,0 @@
-use Rattle.std.proofs.Common.{◌≡◌, drop}
-use Rattle.tv_endings.specs.Turns.{first_of_steps_after, may_settle}
-use Rattle.tv_endings.proofs.turn.first_of_steps_after.Given as goal
-
-abbrev pub invariant-loop-at : goal.invariant-loop-at
-invariant-loop-at l =
-    first_of_steps_after (may_settle l.wiring l.endings) l.idle.steps l.step l.place l.order
-    ≡ first_of_steps_after (may_settle l.wiring l.endings) l.idle.steps l.step l.place (drop l.at l.order)

@@ -1,0 +1,4 @@
+pub mod Beside
+pub mod Theirs
+pub mod nodes
+pub mod values

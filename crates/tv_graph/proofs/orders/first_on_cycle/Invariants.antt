@@ -1,6 +1,0 @@
-use Rattle.std.proofs.Common.{◌≡◌, ℕ, ◌<◌, false}
-use Rattle.tv_graph.specs.Graphs.{is_on_cycle}
-use Rattle.tv_graph.proofs.orders.first_on_cycle.Given as goal
-
-abbrev pub invariant-loop-vertex : goal.invariant-loop-vertex
-invariant-loop-vertex l = (u : ℕ) → u < l.vertex → is_on_cycle l.graph u ≡ false

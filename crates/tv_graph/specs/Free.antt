@@ -1,8 +1,0 @@
--- Whether a vertex is in the set.
-use Rattle.std.specs.Prelude.{ℕ, Bool}
-use Rattle.std.specs.Ordering.{nat_cmp}
-use Rattle.std.specs.BTreeSet.{contains}
-use Rattle.tv_graph.specs.declared.free.Free.{Free}
-
-abbrev pub has : Free → ℕ → Bool
-has s u = contains nat_cmp s.vertices u

@@ -1,5 +1,0 @@
-use Rattle.tv_instance.proofs.OfLaws.{lists-are_whole_by_count, outputs-are_whole}
-use Rattle.tv_instance.proofs.laws.wholeness.Goals as goal
-
-pub returns : goal.returns
-returns c = record { outputs = outputs-are_whole; lists = lists-are_whole_by_count }

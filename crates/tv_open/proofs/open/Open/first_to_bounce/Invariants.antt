@@ -1,5 +1,0 @@
-use Rattle.tv_open.proofs.OfFaulty.{NoneFaultyYet}
-use Rattle.tv_open.proofs.open.Open.first_to_bounce.Given as goal
-
-abbrev pub invariant-loop-step : goal.invariant-loop-step
-invariant-loop-step l = NoneFaultyYet l.plan l.pool l.self l.step-items l.step-index

@@ -1,6 +1,0 @@
-use Rattle.std.specs.Prelude.{length, ◌-◌}
-use Rattle.tv_open.proofs.OfTurns.{AreFilled}
-use Rattle.tv_open.proofs.turns.Turns.start.Given as goal
-
-abbrev pub invariant-loop-done : goal.invariant-loop-done
-invariant-loop-done l = AreFilled l.order l.self.positions.items l.steps (length l.order - l.done)

@@ -1,6 +1,0 @@
-pub mod OfRuns
-pub mod OfStages
-pub mod OfChanges
-pub mod OfCounts
-pub mod OfOffers
-pub mod OfEnds

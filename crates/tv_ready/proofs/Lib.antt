@@ -1,6 +1,0 @@
-pub mod Comparing
-pub mod Finding
-pub mod Heaping
-pub mod Keeping
-pub mod Laying
-pub mod Sorting

@@ -1,3 +1,0 @@
-pub mod OfDepths
-pub mod OfStarts
-pub mod OfFaults

@@ -1,6 +1,0 @@
-use Rattle.std.proofs.Common.{◌∙◌, ap, sym, length}
-use Rattle.tv_wires.proofs.Numbering.{position-absent}
-use Rattle.tv_wires.proofs.feeds.step_number.Goals as goal
-
-pub returns-in-None : goal.returns-in-None
-returns-in-None c = ap length c.as_slice.ensures ∙ sym (position-absent c.args.name.now c.args.steps.now (sym c.in-None.ensures.number))

@@ -1,5 +1,0 @@
-use Rattle.std.proofs.Common.{◌≡◌, [], map, replicate}
-use Rattle.tv_wires.proofs.rows.Rows.new.Given as goal
-
-abbrev pub invariant-loop : goal.invariant-loop
-invariant-loop g l = map (λ v. v.items) l.rows.items ≡ replicate l.counter []

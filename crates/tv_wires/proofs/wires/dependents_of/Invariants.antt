@@ -1,7 +1,0 @@
-use Rattle.std.proofs.Common.{◌≡◌, [], length, replicate}
-use Rattle.tv_wires.specs.Turned.{with_items, waits_of}
-use Rattle.tv_wires.proofs.Turning.{so_far}
-use Rattle.tv_wires.proofs.wires.dependents_of.Given as goal
-
-abbrev pub invariant-loop-step : goal.invariant-loop-step
-invariant-loop-step l = l.rows ≡ with_items (replicate (length l.after) []) (so_far waits_of l.after l.step)
