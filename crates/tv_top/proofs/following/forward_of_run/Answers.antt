@@ -14,7 +14,7 @@ use Rattle.tv_top.proofs.Questions.{all-begin}
 use Rattle.tv_top.proofs.following.forward_of_run.Goals as goal
 
 pub traced-requires : goal.traced-requires
-traced-requires g c = c.in_ok-board.ensures.board.worked_off.done
+traced-requires g c = (c.type_bounds.send-A-Services, (c.type_bounds.sync-A-Services, c.in_ok-board.ensures.board.worked_off.done))
 
 pub returns-clause-leaves : goal.returns-clause-leaves
 returns-clause-leaves g c =

@@ -14,7 +14,7 @@ use Rattle.tv_top.proofs.Questions.{all-begin}
 use Rattle.tv_top.proofs.following.lineage_of_run.Goals as goal
 
 pub traced-requires : goal.traced-requires
-traced-requires g c = c.in_ok-board.ensures.board.worked_off.done
+traced-requires g c = (c.type_bounds.send-A-Services, (c.type_bounds.sync-A-Services, c.in_ok-board.ensures.board.worked_off.done))
 
 pub returns-in-Some-clause-labels : goal.returns-in-Some-clause-labels
 returns-in-Some-clause-labels g c =
