@@ -2,6 +2,7 @@
 //! in whatever order outcomes came.
 use crate::play::{Play, run_of};
 use std::alloc::Global;
+use std::process::Abort;
 use std::test::Fail;
 
 /// A document, and the line that it comes to.
@@ -112,7 +113,8 @@ const DEEP: Worked = Worked {
     line: "{\"outputs\":{\"out\":[\"a\",\"b\"]},\"totals\":{\"attempts\":4,\"bounced\":0,\"failed\":0,\"jobs\":6}}\n",
 };
 
-static CASES: [(Worked, &str, &str); 31] = [
+/// Scripts with one job: a document, the acts, and what they say.
+static ONE_JOB: [(Worked, &str, &str); 4] = [
     // One job: its answer is accepted once, and the run ends.
     (
         ONE,
@@ -137,6 +139,10 @@ static CASES: [(Worked, &str, &str); 31] = [
         "task:99/0/0 task:0/0/0 hand task:0/0/0 task:0/0/1 task:0/1/0 task:1/0/0 recall task:0/0/0",
         r#"unknown ready 0/0/0 upper o:0["a"] out 0/0 out 0/0 ready 1 idle 0/0 "#,
     ),
+];
+
+/// Scripts with two texts through two steps: a document, the acts, and what they say.
+static TWO_STEPS: [(Worked, &str, &str); 5] = [
     // Two texts through two steps, of which the first may have two tries out.
     (CHAIN_BY_TWO, "", ""),
     (
@@ -159,6 +165,10 @@ static CASES: [(Worked, &str, &str); 31] = [
         "hand hand ask:0/0/0 ask:0/0/0 ask:1/0/0 accept:0 accept:1 accept:2 accept:1",
         "0/0/0 1/0/0 good settled good settled ",
     ),
+];
+
+/// Scripts with outcomes in any order: a document, the acts, and what they say.
+static IN_ANY_ORDER: [(Worked, &str, &str); 3] = [
     (
         CHAIN_BY_TWO,
         "hand hand ask:0/0/0 ask:1/0/0 recall accept:0 accept:1 hand accept:1 accept:0 hand hand accept:1",
@@ -174,6 +184,10 @@ static CASES: [(Worked, &str, &str); 31] = [
         "settles hand hand ask:1/0/0 ask:0/0/0 accept:0 accept:1 settles hand ask:3/0/0 accept:2 hand ask:2/0/0 accept:3 settles settles hand",
         "2 0/0/0 1/0/0 good good 0 3/0/0 good 2/0/0 good 1 0 none ",
     ),
+];
+
+/// Scripts with texts of which one fails: a document, the acts, and what they say.
+static WITH_A_FAULT: [(Worked, &str, &str); 3] = [
     // Three texts, of which one fails.
     (
         FAILURES_BY_THREE,
@@ -190,6 +204,10 @@ static CASES: [(Worked, &str, &str); 31] = [
         "hand hand hand ask:1/0/0 ask:1/0/0 recall hand hand accept:1 accept:0 settles",
         "0/0/0 1/0/0 2/0/0 3 0/0/0 1/0/0 failed settled 3 ",
     ),
+];
+
+/// Scripts with tries one after another: a document, the acts, and what they say.
+static TRIES: [(Worked, &str, &str); 3] = [
     // The tries of one job come one after another, and an answer is for its own try.
     (
         FLAKY,
@@ -209,6 +227,10 @@ static CASES: [(Worked, &str, &str); 31] = [
         "settles task:0/0/0 task:1/0/0 hand settle settle hand hand name:3 name:4 ask:3/0/0 ask:4/0/0 recall settle accept:0 hand accept:1 hand accept:1 settles accept:0 settles hand ask:5/0/0 accept:2 settles done totals history",
         "2 nested ready 3/0/0 true false 4/0/0 none n[0]/u[] n[1]/u[] 2 false idle 0/0 3/0/0 idle 0/0 4/0/0 good 2 good 1 5/0/0 good 2 true 3 0 0 6 closed 0/0/0 3;opened 0 1;out 3/0/0;opened 1 2;out 4/0/0;recalled 2;out 3/0/0;out 4/0/0;in 4/0/0 true;ended 2;opened 2 3;in 3/0/0 true;ended 1;out 5/0/0;in 5/0/0 true;ended 3;ended 0; ",
     ),
+];
+
+/// Scripts with instances of a nested flow: a document, the acts, and what they say.
+static INSTANCES: [(Worked, &str, &str); 4] = [
     // A job whose services failed is idle until its instance is opened, with the place that it has; it
     // waits while a job before it has a try on offer.
     (
@@ -234,6 +256,10 @@ static CASES: [(Worked, &str, &str); 31] = [
         "move move move move move move move ask:2/0/0 ask:3/0/0 accept:0 move move move accept:1",
         "settles settles settles 2/0/0 settles 3/0/0 none failed settles settles none good ",
     ),
+];
+
+/// Scripts with faults and recalls inside an instance: a document, the acts, and what they say.
+static INNER_FAULTS: [(Worked, &str, &str); 4] = [
     // A recall takes back what is out in an instance two flows deep, which stays open; a job's attempts
     // go on from there.
     (
@@ -260,6 +286,10 @@ static CASES: [(Worked, &str, &str); 31] = [
         "hand ask:0/0/0 accept:0 noted:q settles hand noted:p hand name:2 ask:2/0/0 accept:1 noted:q noted:p",
         "0/0/0 good ; 2 2/0/0 p[0]<x[0] ; 1/0/0 q[0] good q[0]<x[0] ; p[0]<x[0] ; ",
     ),
+];
+
+/// Scripts with jobs once they are settled: a document, the acts, and what they say.
+static NOTED: [(Worked, &str, &str); 3] = [
     // A job that has failed is noted, and one that bounced, which leads through it.
     (
         FAILURES,
@@ -277,6 +307,10 @@ static CASES: [(Worked, &str, &str); 31] = [
         "noted:e hand ask:0/0/0 accept:0 noted:e",
         "; 0/0/0 good e[]<x[]<y[] ; ",
     ),
+];
+
+/// Scripts with lists, nested jobs and nodes: a document, the acts, and what they say.
+static LISTS_AND_NODES: [(Worked, &str, &str); 2] = [
     // A nested job is noted once its instance has ended, and no job inside an instance is.
     (
         NESTED_TWO,
@@ -299,12 +333,61 @@ fn played(alloc: Global, document: &str, script: &str) -> Result<Play, Fail> {
     Ok(play)
 }
 
-#[test]
-fn each_act_says_what_is_due(rt: HostRuntime) -> Result<(), Fail> {
-    for (worked, script, said) in &CASES {
-        let play = played(rt.alloc(), worked.document, script)?;
+/// Holds what each script says, and then the line, against what is due.
+fn say_what_is_due(
+    rt: &impl Abort,
+    alloc: Global,
+    cases: &[(Worked, &str, &str)],
+) -> Result<(), Fail> {
+    for (worked, script, said) in cases {
+        let play = played(alloc, worked.document, script)?;
         let due = (*said, worked.line);
         assert_eq!(rt; (play.said.as_str(), play.line.as_str()), due, "{script}");
     }
     Ok(())
+}
+
+#[test]
+fn one_job_as_due(rt: HostRuntime) -> Result<(), Fail> {
+    say_what_is_due(&rt, rt.alloc(), &ONE_JOB)
+}
+
+#[test]
+fn two_steps_as_due(rt: HostRuntime) -> Result<(), Fail> {
+    say_what_is_due(&rt, rt.alloc(), &TWO_STEPS)
+}
+
+#[test]
+fn in_any_order_as_due(rt: HostRuntime) -> Result<(), Fail> {
+    say_what_is_due(&rt, rt.alloc(), &IN_ANY_ORDER)
+}
+
+#[test]
+fn with_a_fault_as_due(rt: HostRuntime) -> Result<(), Fail> {
+    say_what_is_due(&rt, rt.alloc(), &WITH_A_FAULT)
+}
+
+#[test]
+fn tries_as_due(rt: HostRuntime) -> Result<(), Fail> {
+    say_what_is_due(&rt, rt.alloc(), &TRIES)
+}
+
+#[test]
+fn instances_as_due(rt: HostRuntime) -> Result<(), Fail> {
+    say_what_is_due(&rt, rt.alloc(), &INSTANCES)
+}
+
+#[test]
+fn inner_faults_as_due(rt: HostRuntime) -> Result<(), Fail> {
+    say_what_is_due(&rt, rt.alloc(), &INNER_FAULTS)
+}
+
+#[test]
+fn noted_as_due(rt: HostRuntime) -> Result<(), Fail> {
+    say_what_is_due(&rt, rt.alloc(), &NOTED)
+}
+
+#[test]
+fn lists_and_nodes_as_due(rt: HostRuntime) -> Result<(), Fail> {
+    say_what_is_due(&rt, rt.alloc(), &LISTS_AND_NODES)
 }
