@@ -15,7 +15,7 @@ use crate::refusal::Refusal;
 use crate::status::Status;
 use std::alloc::Global;
 use tv_check::CheckedRun;
-use tv_gate::Asker;
+use tv_gate::{Asker, Services};
 use tv_json::element_text;
 use tv_lineage::{Labels, OutPlaces};
 use tv_value::{Name, NoMemory, Place, Text};
@@ -43,7 +43,7 @@ pub(crate) fn lineage<A: Asker>(
 
 /// The elements of inputs that made an element of an output, of a document that a board runs; `None`
 /// where there is no such output or nothing stands there.
-fn lineage_of_run<A: Asker>(
+fn lineage_of_run<V: Services, A: Asker<Services = V>>(
     alloc: Global,
     port: &Name,
     place: &Place,
@@ -51,11 +51,11 @@ fn lineage_of_run<A: Asker>(
     asker: &mut A,
 ) -> Result<Option<Labels>, NoMemory>
     ensures labels { IfOk result (λ o. o
-        ≡ model.lineage_of (meaning A.Services.gives (run_view run)) port.now place.now) }
+        ≡ model.lineage_of (meaning V.gives (run_view run)) port.now place.now) }
     ensures asked { OnOk result (AsksThese (A.calls asker.old) (A.calls asker.new)
-        (map call_of (ask_order (meaning A.Services.gives (run_view run))))) }
+        (map call_of (ask_order (meaning V.gives (run_view run))))) }
     ensures begun { OnErr result (BeginsThese (A.calls asker.old) (A.calls asker.new)
-        (map call_of (ask_order (meaning A.Services.gives (run_view run))))) }
+        (map call_of (ask_order (meaning V.gives (run_view run))))) }
     ensures reached { A.reaches asker.old asker.new }
 {
     let board = run_board(alloc, run, asker)?;
@@ -103,7 +103,7 @@ fn is_given(run: &CheckedRun, port: &Name, place: &Place) -> bool
 }
 
 /// The leaves of outputs that an element of an input made, of a document that a board runs.
-fn forward_of_run<A: Asker>(
+fn forward_of_run<V: Services, A: Asker<Services = V>>(
     alloc: Global,
     port: &Name,
     place: &Place,
@@ -111,11 +111,11 @@ fn forward_of_run<A: Asker>(
     asker: &mut A,
 ) -> Result<OutPlaces, NoMemory>
     ensures leaves { IfOk result (λ ls. ls
-        ≡ model.forward (meaning A.Services.gives (run_view run)) port.now place.now) }
+        ≡ model.forward (meaning V.gives (run_view run)) port.now place.now) }
     ensures asked { OnOk result (AsksThese (A.calls asker.old) (A.calls asker.new)
-        (map call_of (ask_order (meaning A.Services.gives (run_view run))))) }
+        (map call_of (ask_order (meaning V.gives (run_view run))))) }
     ensures begun { OnErr result (BeginsThese (A.calls asker.old) (A.calls asker.new)
-        (map call_of (ask_order (meaning A.Services.gives (run_view run))))) }
+        (map call_of (ask_order (meaning V.gives (run_view run))))) }
     ensures reached { A.reaches asker.old asker.new }
 {
     let board = run_board(alloc, run, asker)?;

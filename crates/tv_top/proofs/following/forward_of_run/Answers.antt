@@ -14,11 +14,11 @@ use Rattle.tv_top.proofs.Questions.{all-begin}
 use Rattle.tv_top.proofs.following.forward_of_run.Goals as goal
 
 pub traced-requires : goal.traced-requires
-traced-requires g c = (c.type_bounds.send-A-Services, (c.type_bounds.sync-A-Services, c.in_ok-board.ensures.board.worked_off.done))
+traced-requires g c = (c.type_bounds.send-V, (c.type_bounds.sync-V, c.in_ok-board.ensures.board.worked_off.done))
 
 pub returns-clause-leaves : goal.returns-clause-leaves
 returns-clause-leaves g c =
-    let gives = g.A.Services.Services.gives in
+    let gives = g.V.Services.gives in
     let same = ap (λ (r : Run). r.document) c.in_ok-traced.ensures.traced ∙ c.in_ok-board.ensures.board.document in
     c.in_ok-used_by.ensures
     ∙ forward-so gives c.in_ok-traced.traced.document (records_of c.records.result.now) c.records.ensures c.args.port.now
@@ -29,16 +29,16 @@ pub returns-in_err-traced-clause-begun : goal.returns-in_err-traced-clause-begun
 returns-in_err-traced-clause-begun g c =
     on-err c.from_residual-in_err-traced.result
     (all-begin (g.A.Asker.calls c.args.asker.now) (g.A.Asker.calls c.run_board.new.asker)
-    (map call_of (ask_order (meaning g.A.Services.Services.gives (run_view c.args.run)))) c.in_ok-board.ensures.asked)
+    (map call_of (ask_order (meaning g.V.Services.gives (run_view c.args.run)))) c.in_ok-board.ensures.asked)
 
 pub returns-in_err-leaves-clause-begun : goal.returns-in_err-leaves-clause-begun
 returns-in_err-leaves-clause-begun g c =
     on-err c.from_residual-in_err-leaves.result
     (all-begin (g.A.Asker.calls c.args.asker.now) (g.A.Asker.calls c.run_board.new.asker)
-    (map call_of (ask_order (meaning g.A.Services.Services.gives (run_view c.args.run)))) c.in_ok-board.ensures.asked)
+    (map call_of (ask_order (meaning g.V.Services.gives (run_view c.args.run)))) c.in_ok-board.ensures.asked)
 
 pub returns-in_err-used_by-clause-begun : goal.returns-in_err-used_by-clause-begun
 returns-in_err-used_by-clause-begun g c =
     on-err c.from_residual-in_err-used_by.result
     (all-begin (g.A.Asker.calls c.args.asker.now) (g.A.Asker.calls c.run_board.new.asker)
-    (map call_of (ask_order (meaning g.A.Services.Services.gives (run_view c.args.run)))) c.in_ok-board.ensures.asked)
+    (map call_of (ask_order (meaning g.V.Services.gives (run_view c.args.run)))) c.in_ok-board.ensures.asked)
