@@ -1,4 +1,6 @@
 //! Whole reads and writes over sources and sinks that are slow, short or broken.
+ghost use Rattle.std.specs.Prelude.{◌<◌};
+
 use std::alloc::Global;
 use std::io;
 use std::io::{ErrorKind, Read, Write};
