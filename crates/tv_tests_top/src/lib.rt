@@ -1,16 +1,5 @@
-//! Tests of streams and of whole runs of the top calls over memory: what they ask, and what fails.
-//!
-//! - `streams`: reads and writes over sources and sinks
-//! - `runs`: runs of the two top calls over streams that may fail
-//! - `calls`: what runs ask
-//! - `failing`: reads and writes that fail, and want of memory
+//! Tests of whole runs of the top calls over memory: answers, refusals, and streams that fail.
 #![tactic(auto)]
 
 #[cfg(test)]
-mod calls;
-#[cfg(test)]
-mod failing;
-#[cfg(test)]
-mod runs;
-#[cfg(test)]
-mod streams;
+mod tests;
