@@ -18,6 +18,8 @@ mod memory;
 mod sink;
 mod source;
 mod steady;
+#[cfg(test)]
+mod tests;
 
 pub use adapters::{ReaderSource, WriterSink};
 pub use faults::{Failed, NoMemory, ReadAllFault, WriteFault};
