@@ -26,7 +26,7 @@ def held(page, program):
                     file.write(body)
             for block in re.split(r"^\$ ", body, flags=re.M)[1:] if kind == "console" else ():
                 command, due = block.split("\n", 1)
-                if "--html" in command and not shutil.which("dot"):
+                if re.search(r"--html|<svg", command) and not shutil.which("dot"):
                     continue
                 how = {"cwd": folder, "stdin": subprocess.DEVNULL, "stdout": subprocess.PIPE, "stderr": subprocess.STDOUT}
                 ran = subprocess.run(["sh", "-c", command], env={**os.environ, "TAVERNA": program}, timeout=120, **how)
