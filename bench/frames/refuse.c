@@ -1,5 +1,5 @@
-/* The calls by which a program of `rt try` takes memory: they refuse the one of which FRAMES_REFUSED has the number, from 1. Where
-   FRAMES_TOLD has the number of an open file, a byte is written to it then. */
+/* The calls by which a program of `rt try` takes memory: they refuse the one of which FRAMES_REFUSED has the number, from 1, over all
+   threads. Where FRAMES_TOLD has the number of an open file, a byte is written to it then. */
 struct taken {
     unsigned long given;
     void *at;
@@ -13,6 +13,7 @@ struct taken rattle_realloc(void *at, unsigned long before, unsigned long size, 
 
 static unsigned long calls;
 static unsigned long refused;
+static int is_read;
 
 static void tell(void)
 {
@@ -24,12 +25,13 @@ static void tell(void)
 static int is_refused(void)
 {
     const char *number;
-    if (calls == 0) {
+    /* (the first call comes before any thread) */
+    if (!is_read) {
+        is_read = 1;
         number = getenv("FRAMES_REFUSED");
         refused = number ? strtoul(number, 0, 10) : 0;
     }
-    calls += 1;
-    if (calls != refused)
+    if (!refused || __atomic_add_fetch(&calls, 1, __ATOMIC_RELAXED) != refused)
         return 0;
     tell();
     return 1;

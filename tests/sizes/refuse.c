@@ -1,5 +1,6 @@
-/* Stands before the two calls by which a program takes memory of the C library, and refuses the one whose number, from 1, REFUSED has.
-   A byte is written then to the open file whose number TOLD has. Made for tests/sizes/run, which puts it there by LD_PRELOAD. */
+/* Stands before the two calls by which a program takes memory of the C library, and refuses the one whose number, from 1 and over all
+   threads, REFUSED has. A byte is written then to the open file whose number TOLD has. Made for tests/sizes/run and bench/workers.py,
+   which put it there by LD_PRELOAD. */
 #include <stdlib.h>
 #include <unistd.h>
 
@@ -8,13 +9,16 @@ void *__libc_realloc(void *at, size_t size);
 
 static unsigned long calls;
 static unsigned long refused;
+static int is_read;
 
 static int is_refused(void)
 {
-    if (calls == 0)
+    /* (the first call comes before any thread) */
+    if (!is_read) {
+        is_read = 1;
         refused = strtoul(getenv("REFUSED"), 0, 10);
-    calls += 1;
-    if (calls != refused)
+    }
+    if (__atomic_add_fetch(&calls, 1, __ATOMIC_RELAXED) != refused)
         return 0;
     if (write(atoi(getenv("TOLD")), "!", 1) != 1)
         abort();
