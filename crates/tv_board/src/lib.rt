@@ -27,17 +27,20 @@
 //! - `board`: the type and its calls
 //! - `answer`, `refused`: what is asked for a task, and answers that are given back
 //! - `traced`: what the jobs of a run that is done used
+//! - `naming`: which run a board under a lock is of
 //! - `laws`: between how many results and how much room the nodes of a run's pool lie
 #![tactic(auto)]
 
 mod answer;
 mod board;
 pub mod laws;
+mod naming;
 mod refused;
 mod traced;
 
 pub use answer::{Answer, ask, ask_alone};
 pub use board::Board;
+pub use naming::Naming;
 pub use refused::Refused;
 pub use traced::Traced;
 pub use tv_history::{Accepted, Entry, JobState, Moved, Task, TaskFault, Ticket};

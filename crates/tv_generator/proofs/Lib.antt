@@ -1,3 +1,4 @@
 pub mod Form
 pub mod TextLemmas
 pub mod Computed
+pub mod Accepting

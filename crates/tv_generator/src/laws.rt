@@ -1,9 +1,15 @@
 //! What holds of the definitions alone: each law is the clause of a function that does nothing.
+ghost use Rattle.tv_generator.specs.Accepted.{AreAccepted};
 ghost use Rattle.tv_generator.specs.Stated.{AreFormed, SummaryOfTen, TextsOfTwelve};
 
 /// Every generated document is of the form.
 pub fn are_formed()
     ensures { AreFormed }
+{}
+
+/// The check finds nothing in a generated document, for services that know the four that it names.
+pub fn are_accepted()
+    ensures { AreAccepted }
 {}
 
 /// The first texts of both lists.

@@ -8,7 +8,7 @@
 //! - `steps`, `feeds`: their steps, and where those take their inputs from
 //! - `texts`: the two lists of texts that it runs on
 //! - `summary`: the line
-//! - `laws`: every such document is of the form; the first texts, and the line of the tenth, compute
+//! - `laws`: every such document is of the form and accepted; the first texts, and the line of the tenth, compute
 #![tactic(auto)]
 
 mod document;

@@ -1,5 +1,13 @@
-//! Tests of whole runs of the top calls over memory: answers, refusals, and streams that fail.
+//! Tests of whole runs of the top calls over memory: what they ask, and what fails.
+//!
+//! - `runs`: runs of the two top calls over streams that may fail
+//! - `calls`: what runs ask, and how often they ask a gate
+//! - `failing`: reads and writes that fail, and want of memory
 #![tactic(auto)]
 
 #[cfg(test)]
-mod tests;
+mod calls;
+#[cfg(test)]
+mod failing;
+#[cfg(test)]
+mod runs;

@@ -1,41 +1,58 @@
 -- How a command leaves the source, and what is answered and asked where the words give it.
-use Rattle.std.specs.Prelude.{Bool, List, Option, Result, Some, ℕ, ◌≡◌}
-use Rattle.std.proofs.Common.{subst, sym}
+use Rattle.std.specs.Prelude.{Bool, Err, List, None, Option, Result, Some, refl, ℕ, ◌≡◌}
+use Rattle.std.proofs.Common.{subst}
 use Rattle.tv_value.specs.Values.{Name, Text}
 use Rattle.tv_gate.specs.Calls.{Call}
 use Rattle.tv_check.specs.declared.run.CheckedRun.{CheckedRun}
 use Rattle.tv_top.specs.Answers.{Answer, reading_for, reading_of}
 use Rattle.tv_top.specs.Asking.{IsAskedFor, ToldCalls}
 use Rattle.tv_top.specs.CommandViews.{reading_view}
-use Rattle.tv_top.specs.Headline.{IsAnswered, IsRead, Source, left_by, read_whole, unread}
-use Rattle.tv_top.specs.Words.{Command, IsGen, gen}
+use Rattle.tv_top.specs.Headline.{IsAnswered, IsRead, Source, left_by, read_whole}
+use Rattle.tv_top.specs.Promised.{OfSource}
+use Rattle.tv_top.specs.Words.{Command, ReadsNothing, check, forward, gen, lineage, run, trace}
 use Rattle.tv_top.specs.declared.refusal.Refusal.{Refusal}
+use Rattle.tv_top.specs.declared.refusal.Refusal.TheVariants as why
+use Rattle.tv_top.specs.declared.status.Status.TheVariants.{NoMemory}
 use Rattle.tv_top.specs.declared.words.Reading.{Reading}
 use Rattle.tv_top.specs.declared.words.Reading.TheVariants.{Check, Forward, Lineage, Run, Trace}
 
--- one that reads a document reads it to its end, and is not for a generated one
-isnt-gen : (r : Reading) → IsGen (Some (reading_view r)) → ⊥
-isnt-gen Run h = h
-isnt-gen Check h = h
-isnt-gen Trace h = h
-isnt-gen (Lineage p q) h = h
-isnt-gen (Forward p q) h = h
+-- one that reads a document reads something
+pub reads : (r : Reading) → ReadsNothing (Some (reading_view r)) → ⊥
+reads Run h = h
+reads Check h = h
+reads Trace h = h
+reads (Lineage p q) h = h
+reads (Forward p q) h = h
 
-pub not-gen : (r : Reading) (o : Option Command) → Some (reading_view r) ≡ o → IsGen o → ⊥
-not-gen r o e h = isnt-gen r (subst IsGen (sym e) h)
+module _ (answer : Option Command → List ℕ → Answer) (s : Source) (x : Result Text Refusal) where
+  -- a text or a refusal is the answer to a command, of what it reads
+  abbrev pub IsAnswerTo : Option Command → Type 0
+  IsAnswerTo o = OfSource o s (λ t. IsAnswered (left_by o) (answer o) t x)
 
-module _ (answer : Option Command → List ℕ → Answer) (o : Option Command) (s : Source) (x : Result Text Refusal) where
-  pub answered-read : (r : Reading) → Some (reading_view r) ≡ o → IsAnswered read_whole (answer (Some (reading_view r))) s x
-      → IsAnswered (left_by o) (answer o) s x
-  answered-read Run e h = subst (λ p. IsAnswered (left_by p) (answer p) s x) e h
-  answered-read Check e h = subst (λ p. IsAnswered (left_by p) (answer p) s x) e h
-  answered-read Trace e h = subst (λ p. IsAnswered (left_by p) (answer p) s x) e h
-  answered-read (Lineage p q) e h = subst (λ p. IsAnswered (left_by p) (answer p) s x) e h
-  answered-read (Forward p q) e h = subst (λ p. IsAnswered (left_by p) (answer p) s x) e h
+  pub answered-read : (r : Reading) → IsAnswered read_whole (answer (Some (reading_view r))) s x
+      → IsAnswerTo (Some (reading_view r))
+  answered-read Run h = h
+  answered-read Check h = h
+  answered-read Trace h = h
+  answered-read (Lineage p q) h = h
+  answered-read (Forward p q) h = h
 
-  pub answered-gen : (n : ℕ) → Some (gen n) ≡ o → IsAnswered unread (answer (Some (gen n))) s x
-      → IsAnswered (left_by o) (answer o) s x
-  answered-gen n e h = subst (λ p. IsAnswered (left_by p) (answer p) s x) e h
+  pub answered-by : (p o : Option Command) → p ≡ o → IsAnswerTo p → IsAnswerTo o
+  answered-by p o e h = subst IsAnswerTo e h
+
+-- want of memory may come to any
+pub short-of-memory :
+    (answer : Option Command → List ℕ → Answer) (s : Source) (o : Option Command) → IsAnswerTo answer s (Err (why.Plain NoMemory)) o
+short-of-memory answer s None = λ t same. (tt, refl)
+short-of-memory answer s (Some run) = (tt, refl)
+short-of-memory answer s (Some check) = (tt, refl)
+short-of-memory answer s (Some trace) = (tt, refl)
+short-of-memory answer s (Some (lineage p q)) = (tt, refl)
+short-of-memory answer s (Some (forward p q)) = (tt, refl)
+short-of-memory answer s (Some (gen n)) = λ t same. (tt, refl)
+
+pub nothing-by : {A : Type 0} (old new : A) (p o : Option Command) → p ≡ o → (ReadsNothing p → new ≡ old) → ReadsNothing o → new ≡ old
+nothing-by old new p o e h = subst (λ q. ReadsNothing q → new ≡ old) e h
 
 -- what it reads is the document that the bytes are
 pub read-for :

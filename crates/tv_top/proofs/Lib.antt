@@ -8,4 +8,5 @@ pub mod Traced
 mod Numbers
 mod Leaving
 mod Completed
+mod Finishing
 mod Elements

@@ -3,6 +3,7 @@ pub mod Lines
 pub mod Answers
 pub mod Asked
 pub mod Headline
+pub mod Promised
 pub mod Asking
 pub mod CommandViews
 pub mod Worked

@@ -31,12 +31,12 @@ carried_out (line.gen number workers) = gen number
 abbrev pub command_of : List Text → Option Command
 command_of words = option_map carried_out (line.command_of words)
 
--- the words ask for a generated document
-abbrev pub IsGen : Option Command → Type 0
-IsGen None = ⊥
-IsGen (Some run) = ⊥
-IsGen (Some check) = ⊥
-IsGen (Some trace) = ⊥
-IsGen (Some (lineage p q)) = ⊥
-IsGen (Some (forward p q)) = ⊥
-IsGen (Some (gen n)) = Unit {0}
+-- a command that reads nothing: a generated document is run, or the words give none
+abbrev pub ReadsNothing : Option Command → Type 0
+ReadsNothing None = Unit {0}
+ReadsNothing (Some run) = ⊥
+ReadsNothing (Some check) = ⊥
+ReadsNothing (Some trace) = ⊥
+ReadsNothing (Some (lineage p q)) = ⊥
+ReadsNothing (Some (forward p q)) = ⊥
+ReadsNothing (Some (gen n)) = Unit {0}

@@ -1,7 +1,7 @@
 //! The two top calls: words and a document in, text and a status out.
 //!
 //! `taverna_alone` does what the words ask for with one asker and always returns; `taverna` has a gate and threads besides.
-//! Their contracts are the headline: what is written is a function of the words and the document's bytes
+//! Their contracts are the headline (`specs/Promised.antt`): what is written is a function of the words and the document's bytes
 //! (`specs/Answers.antt`), and so is what the services are asked (`specs/Asking.antt`), each status has its cause and its line
 //! (`specs/Headline.antt`), and a document that is accepted is refused for want of memory or a fault of a stream alone. `gen` runs a
 //! document that is generated (`tv_generator`), and reads nothing. A run goes over a board (`tv_board`), which one worker works

@@ -1,12 +1,13 @@
 //! The top calls.
-ghost use Rattle.std.specs.Prelude.{◌+◌, ◌≡◌, ◌≢◌, ◌≤◌, ◌↔◌, Some, None, IfErr};
+ghost use Rattle.std.specs.Prelude.{◌+◌, ◌≡◌, ◌≢◌, ◌≤◌, ◌↔◌, Some, None, OnErr, OnOk};
 ghost use Rattle.tv_io.specs.ReadOf.{TakesAtMost};
-ghost use Rattle.tv_top.specs.Words.{IsGen, gen};
-ghost use Rattle.tv_top.specs.CommandViews.{reading_view};
+ghost use Rattle.tv_top.specs.Words.{ReadsNothing, gen};
+ghost use Rattle.tv_top.specs.CommandViews.{IsBounded, command_view, reading_view};
 ghost use Rattle.tv_top.specs.Answers.{answer_of, byte_limit, generated_reading, reading_of};
 ghost use Rattle.tv_top.specs.Asked.{GivesRun, asked_for, refusal_status, refusal_line, ended};
 ghost use Rattle.tv_top.specs.Asking.{asks_of, IsAsked, IsAskedFor};
-ghost use Rattle.tv_top.specs.Headline.{IsAnswered, Cause, IsComplete, IsLine, IsRead, IsReported, IsSaid, Source as ASource, left_by, read_whole, source_told, sink_told, unread};
+ghost use Rattle.tv_top.specs.Headline.{IsAnswered, IsRead, IsReported, Source as ASource, left_by, read_whole, source_told, sink_told, unread};
+ghost use Rattle.tv_top.specs.Promised.{IsFinished, IsPromised, OfSource};
 
 use crate::answering::{answer, summary};
 use crate::reading::{checked_run, run_of_document};
@@ -26,7 +27,7 @@ use tv_value::Text;
 const BYTE_LIMIT: usize = 1 << 24;
 
 /// Does what the words ask for: reads the source to its end, writes the answer to `out`, and, unless the status is
-/// `Done`, the status's line to `err`.
+/// `Done`, the status's line to `err`. It always returns.
 ///
 /// The answer is a function of the words and the bytes, for the services of the asker's type. Nothing is written to
 /// `out` before all of it is made. `check` takes near linear time in the document. A run goes over a board (`tv_board`):
@@ -41,28 +42,9 @@ pub fn taverna_alone<S: Source, K: Sink, E: Sink, A: Asker>(
     err: &mut E,
     asker: &mut A,
 ) -> Status
-    // Why the status came, by the bytes of the document and of the answer.
-    ensures cause { Cause (left_by (asked_for words.now))
+    ensures promised { IsPromised ⟦<S as Source>⟧ ⟦<K as Sink>⟧ ⟦<E as Sink>⟧ (asked_for words.now)
         (answer_of A.Services.gives A.Services.knows (asked_for words.now))
-        (source_told ⟦<S as Source>⟧ source.old source.new)
-        (sink_told ⟦<K as Sink>⟧ out.old out.new) result }
-    ensures complete { IsComplete
-        (answer_of A.Services.gives A.Services.knows (asked_for words.now))
-        (source_told ⟦<S as Source>⟧ source.old source.new)
-        (sink_told ⟦<K as Sink>⟧ out.old out.new) result }
-    // Words that give no command are told from them alone, where memory isn't wanting, and then nothing is read.
-    ensures usage { result ≢ Status.NoMemory
-        → ((result ≡ Status.Usage) ↔ (asked_for words.now ≡ None)) }
-    ensures taken { TakesAtMost (byte_limit + 1) (S.left source.old) (S.left source.new) }
-    ensures unread { result ≡ Status.Usage → source.new ≡ source.old }
-    ensures unread_by_gen { IsGen (asked_for words.now) → source.new ≡ source.old }
-    // The output has nothing but an answer, and the line on `err` is the status's.
-    ensures silent { result ≢ Status.Done → result ≢ Status.WriteFault → out.new ≡ out.old }
-    ensures unsaid { result ≡ Status.Done → err.new ≡ err.old }
-    ensures said { result ≢ Status.Done
-        → IsSaid (answer_of A.Services.gives A.Services.knows (asked_for words.now))
-        (source_told ⟦<S as Source>⟧ source.old source.new)
-        (sink_told ⟦<E as Sink>⟧ err.old err.new) result }
+        source.old source.new out.old out.new err.old err.new result }
     // What the services were asked, where the asker tells its calls: all that the answer takes, in the order of one worker, and
     // no more, whether or not it was written, or an element of an output wasn't there; nothing for another refusal; a beginning of it
     // where memory was wanting.
@@ -70,9 +52,51 @@ pub fn taverna_alone<S: Source, K: Sink, E: Sink, A: Asker>(
         (source_told ⟦<S as Source>⟧ source.old source.new)
         (A.calls asker.old) (A.calls asker.new) result }
 {
-    let ended = carried_out(alloc, words, source, out, asker);
-    match ended {
-        Ok(()) => Status::Done,
+    let answer = answered(alloc, words, source, asker);
+    finished(answer, out, err)
+}
+
+/// Does what the words ask for, as `taverna_alone` does, over a gate that many threads may ask. No command uses the gate
+/// yet: each is done by `taverna_alone` with the asker.
+pub fn taverna<
+    R: Threads + Wait + Sync,
+    S: Source,
+    K: Sink,
+    E: Sink,
+    G: Gate,
+    A: Asker<Services = G::Services>,
+>(
+    _rt: &R,
+    alloc: Global,
+    words: &[String],
+    source: &mut S,
+    out: &mut K,
+    err: &mut E,
+    _gate: &G,
+    asker: &mut A,
+) -> Status
+    ensures promised { IsPromised ⟦<S as Source>⟧ ⟦<K as Sink>⟧ ⟦<E as Sink>⟧ (asked_for words.now)
+        (answer_of G.Services.gives G.Services.knows (asked_for words.now))
+        source.old source.new out.old out.new err.old err.new result }
+    ensures asked { IsAsked (asks_of G.Services.gives G.Services.knows (asked_for words.now))
+        (source_told ⟦<S as Source>⟧ source.old source.new)
+        (A.calls asker.old) (A.calls asker.new) result }
+{
+    taverna_alone(alloc, words, source, out, err, asker)
+}
+
+/// Writes the text, where there is one, and else the line of the refusal, and gives the status.
+fn finished<K: Sink, E: Sink>(answer: Result<Text, Refusal>, out: &mut K, err: &mut E) -> Status
+    ensures finished { IsFinished answer (sink_told ⟦<K as Sink>⟧ out.old out.new)
+        (sink_told ⟦<E as Sink>⟧ err.old err.new) result }
+    ensures silent { OnErr answer (out.new ≡ out.old) }
+    ensures unsaid { OnOk answer (result ≡ Status.Done → err.new ≡ err.old) }
+{
+    match answer {
+        Ok(text) => match write_all(out, text.as_str().as_bytes()) {
+            Ok(()) => Status::Done,
+            Err(_) => told(&Refusal::Plain(Status::WriteFault), err),
+        },
         Err(refusal) => told(&refusal, err),
     }
 }
@@ -89,39 +113,6 @@ fn told<E: Sink>(refusal: &Refusal, err: &mut E) -> Status
     refusal.status()
 }
 
-/// Writes the answer to the words and the bytes.
-fn carried_out<S: Source, K: Sink, A: Asker>(
-    alloc: Global,
-    words: &[String],
-    source: &mut S,
-    out: &mut K,
-    asker: &mut A,
-) -> Result<(), Refusal>
-    ensures cause { Cause (left_by (asked_for words.now))
-        (answer_of A.Services.gives A.Services.knows (asked_for words.now))
-        (source_told ⟦<S as Source>⟧ source.old source.new)
-        (sink_told ⟦<K as Sink>⟧ out.old out.new) (ended result) }
-    ensures line { IfErr result
-        (λ r. IsLine (answer_of A.Services.gives A.Services.knows (asked_for words.now))
-        (source_told ⟦<S as Source>⟧ source.old source.new) (refusal_status r) (refusal_line r)) }
-    ensures usage { ended result ≢ Status.NoMemory
-        → ((ended result ≡ Status.Usage) ↔ (asked_for words.now ≡ None)) }
-    ensures taken { TakesAtMost (byte_limit + 1) (S.left source.old) (S.left source.new) }
-    ensures unread { ended result ≡ Status.Usage → source.new ≡ source.old }
-    ensures unread_by_gen { IsGen (asked_for words.now) → source.new ≡ source.old }
-    ensures silent { ended result ≢ Status.Done → ended result ≢ Status.WriteFault
-        → out.new ≡ out.old }
-    ensures asked { IsAsked (asks_of A.Services.gives A.Services.knows (asked_for words.now))
-        (source_told ⟦<S as Source>⟧ source.old source.new)
-        (A.calls asker.old) (A.calls asker.new) (ended result) }
-{
-    let text = answered(alloc, words, source, asker)?;
-    match write_all(out, text.as_str().as_bytes()) {
-        Ok(()) => Ok(()),
-        Err(_) => Err(Refusal::Plain(Status::WriteFault)),
-    }
-}
-
 /// The text to print, or the refusal.
 fn answered<S: Source, A: Asker>(
     alloc: Global,
@@ -129,22 +120,47 @@ fn answered<S: Source, A: Asker>(
     source: &mut S,
     asker: &mut A,
 ) -> Result<Text, Refusal>
-    ensures answer { IsAnswered (left_by (asked_for words.now))
-        (answer_of A.Services.gives A.Services.knows (asked_for words.now))
-        (source_told ⟦<S as Source>⟧ source.old source.new) result }
+    ensures answer { OfSource (asked_for words.now)
+        (source_told ⟦<S as Source>⟧ source.old source.new)
+        (λ s. IsAnswered (left_by (asked_for words.now))
+        (answer_of A.Services.gives A.Services.knows (asked_for words.now)) s result) }
     ensures usage { ended result ≢ Status.NoMemory
         → ((ended result ≡ Status.Usage) ↔ (asked_for words.now ≡ None)) }
     ensures taken { TakesAtMost (byte_limit + 1) (S.left source.old) (S.left source.new) }
-    ensures unread { ended result ≡ Status.Usage → source.new ≡ source.old }
-    ensures unread_by_gen { IsGen (asked_for words.now) → source.new ≡ source.old }
+    ensures unread { ReadsNothing (asked_for words.now) → source.new ≡ source.old }
     ensures asked { IsAskedFor (asks_of A.Services.gives A.Services.knows (asked_for words.now))
         (source_told ⟦<S as Source>⟧ source.old source.new)
         (A.calls asker.old) (A.calls asker.new) result }
 {
     match command_of(alloc, words)? {
-        Some(Command::Of(reading)) => read_and_answered(alloc, reading, source, asker),
-        Some(Command::Gen { number }) => generated_and_answered(alloc, number, asker),
+        Some(command) => carried_out(alloc, command, source, asker),
         None => Err(Refusal::Plain(Status::Usage)),
+    }
+}
+
+/// The text to print for a command, or the refusal.
+fn carried_out<S: Source, A: Asker>(
+    alloc: Global,
+    command: Command,
+    source: &mut S,
+    asker: &mut A,
+) -> Result<Text, Refusal>
+    requires { IsBounded command }
+    ensures answer { OfSource (Some (command_view command))
+        (source_told ⟦<S as Source>⟧ source.old source.new)
+        (λ s. IsAnswered (left_by (Some (command_view command)))
+        (answer_of A.Services.gives A.Services.knows (Some (command_view command))) s result) }
+    ensures command { ended result ≢ Status.Usage }
+    ensures taken { TakesAtMost (byte_limit + 1) (S.left source.old) (S.left source.new) }
+    ensures unread { ReadsNothing (Some (command_view command)) → source.new ≡ source.old }
+    ensures asked { IsAskedFor
+        (asks_of A.Services.gives A.Services.knows (Some (command_view command)))
+        (source_told ⟦<S as Source>⟧ source.old source.new)
+        (A.calls asker.old) (A.calls asker.new) result }
+{
+    match command {
+        Command::Of(reading) => read_and_answered(alloc, reading, source, asker),
+        Command::Gen { number } => generated_and_answered(alloc, number, asker),
     }
 }
 
@@ -215,49 +231,4 @@ fn run_read<S: Source, V: Services>(alloc: Global, source: &mut S) -> Result<Che
         Err(ReadAllFault::TooLong) => Err(Refusal::Plain(Status::TooLong)),
         Err(ReadAllFault::NoMemory) => Err(Refusal::Plain(Status::NoMemory)),
     }
-}
-
-/// Does what the words ask for, as `taverna_alone` does, over a gate that many threads may ask. No command uses the gate
-/// yet: each is done by `taverna_alone` with the asker.
-pub fn taverna<
-    R: Threads + Wait + Sync,
-    S: Source,
-    K: Sink,
-    E: Sink,
-    G: Gate,
-    A: Asker<Services = G::Services>,
->(
-    _rt: &R,
-    alloc: Global,
-    words: &[String],
-    source: &mut S,
-    out: &mut K,
-    err: &mut E,
-    _gate: &G,
-    asker: &mut A,
-) -> Status
-    ensures cause { Cause (left_by (asked_for words.now))
-        (answer_of G.Services.gives G.Services.knows (asked_for words.now))
-        (source_told ⟦<S as Source>⟧ source.old source.new)
-        (sink_told ⟦<K as Sink>⟧ out.old out.new) result }
-    ensures complete { IsComplete
-        (answer_of G.Services.gives G.Services.knows (asked_for words.now))
-        (source_told ⟦<S as Source>⟧ source.old source.new)
-        (sink_told ⟦<K as Sink>⟧ out.old out.new) result }
-    ensures usage { result ≢ Status.NoMemory
-        → ((result ≡ Status.Usage) ↔ (asked_for words.now ≡ None)) }
-    ensures taken { TakesAtMost (byte_limit + 1) (S.left source.old) (S.left source.new) }
-    ensures unread { result ≡ Status.Usage → source.new ≡ source.old }
-    ensures unread_by_gen { IsGen (asked_for words.now) → source.new ≡ source.old }
-    ensures silent { result ≢ Status.Done → result ≢ Status.WriteFault → out.new ≡ out.old }
-    ensures unsaid { result ≡ Status.Done → err.new ≡ err.old }
-    ensures said { result ≢ Status.Done
-        → IsSaid (answer_of G.Services.gives G.Services.knows (asked_for words.now))
-        (source_told ⟦<S as Source>⟧ source.old source.new)
-        (sink_told ⟦<E as Sink>⟧ err.old err.new) result }
-    ensures asked { IsAsked (asks_of G.Services.gives G.Services.knows (asked_for words.now))
-        (source_told ⟦<S as Source>⟧ source.old source.new)
-        (A.calls asker.old) (A.calls asker.new) result }
-{
-    taverna_alone(alloc, words, source, out, err, asker)
 }

@@ -1,10 +1,11 @@
--- What is settled where nothing is out, handed out where nothing can be settled, or accepted, keeps the history one worker's.
+-- What is settled where nothing is out, handed out where nothing can be settled, or accepted, appends what one worker does.
 use Rattle.std.specs.List.{list_all, list_any}
 use Rattle.std.specs.Option.{option_map_or}
-use Rattle.std.specs.Prelude.{Bool, List, None, Option, Some, [], cond, false, find, is_none, not, refl, true, ℕ, ◌&&◌, ◌==◌, ◌||◌, ◌∷◌, ◌≡◌}
+use Rattle.std.specs.Prelude.{Bool, List, None, Option, Some, [], cond, false, find, is_none, not, refl, true, ℕ, ◌&&◌, ◌++◌, ◌==◌, ◌||◌, ◌∷◌, ◌≡◌}
 use Rattle.std.proofs.Common.{ap, inl, inr, subst, sym, ◌∙◌}
 use Rattle.std.proofs.lemmas.Bool.{eq-eqb, false_from_ne_true}
-use Rattle.std.specs.Cmp.{first_so}
+use Rattle.std.proofs.lemmas.List.{append_assoc}
+use Rattle.std.specs.Cmp.{first_so, second_so}
 use Rattle.tv_history.proofs.Tests.{same-itself}
 use Rattle.tv_lemmas.specs.Members.{In}
 use Rattle.tv_lemmas.proofs.Members.{any-in, some_in}
@@ -28,7 +29,8 @@ use Rattle.tv_history.specs.Refusals.{accepts}
 use Rattle.tv_history.specs.declared.entry.Entry.{Entry}
 use Rattle.tv_history.specs.declared.entry.Entry.TheVariants as entry
 use Rattle.tv_history.specs.declared.ticket.Ticket.{Ticket}
-use Rattle.tv_work.specs.ByOne.{StaysByOne}
+use Rattle.tv_history.specs.order.Chains.{is_by_one_from}
+use Rattle.tv_work.specs.ByOne.{AppendsByOne, IsByOne}
 use Rattle.tv_work.specs.Working.{IsFree}
 use Rattle.tv_work.proofs.Ends.{none-out}
 use Rattle.tv_history.proofs.OneMore.{before, before-same, named, one-newer}
@@ -103,6 +105,27 @@ module _ (gives : Giving) (m : Meaning) (past : History) (quiet : (e : history.E
       (weaken-found (λ j. is_at j n && option_map_or (is_ask a t) (next_ask past j) false) (λ j. is_at j n) (λ j k. first_so (is_at j n) (option_map_or (is_ask a t) (next_ask past j) false) k) (find (is_offered m past) m.jobs) h) none-opens))
       none
 
+-- ---- what is appended to what was
+
+joined :
+    (m : Meaning) (base newer older : History) → is_by_one_from m base older ≡ true → is_by_one_from m (older ++ base) newer ≡ true
+    → is_by_one_from m base (newer ++ older) ≡ true
+joined m base [] older h k = h
+joined m base (e ∷ es) older h k =
+    let next = is_by_one_after m (es ++ (older ++ base)) e in
+    both_true (is_by_one_from m base (es ++ older)) (is_by_one_after m ((es ++ older) ++ base) e)
+    (joined m base es older h (first_so (is_by_one_from m (older ++ base) es) next k))
+    (subst (λ p. is_by_one_after m p e ≡ true) (sym (append_assoc es older base))
+    (second_so (is_by_one_from m (older ++ base) es) next k))
+
+with-base :
+    (m : Meaning) (base es : History) → is_by_one m base ≡ true → is_by_one_from m base es ≡ true → is_by_one m (es ++ base) ≡ true
+with-base m base [] b h = b
+with-base m base (e ∷ es) b h =
+    let next = is_by_one_after m (es ++ base) e in
+    both_true (is_by_one m (es ++ base)) next
+    (with-base m base es b (first_so (is_by_one_from m base es) next h)) (second_so (is_by_one_from m base es) next h)
+
 -- ---- one entry more
 
 module _ (gives : Giving) where
@@ -113,9 +136,6 @@ module _ (gives : Giving) where
   settled-by_one m past d ns is (entry.Recalled c) h none = absurd (true≠false (sym h))
   settled-by_one m past d ns is e h none = refl
 
-  then-one : (m k : Meaning) (past now : History) (e : history.Entry) → m ≡ k → now ≡ e ∷ past → is_by_one_after k past e ≡ true → is_by_one k past ≡ true → is_by_one m now ≡ true
-  then-one m k past now e p q next was = (λ i. is_by_one (p i) (q i)) ∙ both_true (is_by_one k past) (is_by_one_after k past e) was next
-
   legal-there : (m k : Meaning) (past other : History) (e : history.Entry) → m ≡ k → past ≡ other → is_legal_after gives m past e ≡ true → is_legal_after gives k other e ≡ true
   legal-there m k past other e p q h = sym (λ i. is_legal_after gives (p i) (q i) e) ∙ h
 
@@ -123,24 +143,40 @@ module _ (gives : Giving) where
   nobody r f = all-fail (λ (j : Job). is_out (past_of r) j.name) (meant gives r).jobs (none-out gives r f)
 
   module _ (r s : Run) (l : IsLegalRun gives r) where
-    after-one : (e : Entry) → Appends r s e → is_by_one_after (meant gives r) (past_of r) (named s e) ≡ true → StaysByOne gives r s
-    after-one e a next was = then-one (meant gives s) (meant gives r) (past_of r) (past_of s) (named s e) (ap (meaning gives) a.document) (one-newer gives r s e l a) next was
+    after-one : (e : Entry) → Appends r s e → is_by_one_after (meant gives r) (past_of r) (named s e) ≡ true → AppendsByOne gives r s
+    after-one e a next = record {
+      document = a.document;
+      appended = named s e ∷ [];
+      past = one-newer gives r s e l a;
+      by_one = both_true true (is_by_one_after (meant gives r) (past_of r) (named s e)) refl next;
+    }
 
-    pub accepted-stays : (t : Ticket) (right : Bool) → Appends r s (accepts t right) → StaysByOne gives r s
+    pub accepted-stays : (t : Ticket) (right : Bool) → Appends r s (accepts t right) → AppendsByOne gives r s
     accepted-stays t right a = after-one (accepts t right) a refl
 
-  pub settled-stays : (r s : Run) → IsFree gives r → Settles r s → StaysByOne gives r s
+  pub settled-stays : (r s : Run) → IsFree gives r → Settles r s → AppendsByOne gives r s
   settled-stays r s f h = after-one r s f.legal h.0 h.1 (settled-by_one (meant gives r) (past_of r) s.document s.names (instances_of s.names s.entries) h.0 h.2 (nobody r f))
 
-  pub handed-stays : (r s : Run) (t : Ticket) → IsFree gives r → NothingSettles gives r → IsLegalRun gives s → Appends r s (hands_out t) → StaysByOne gives r s
+  pub handed-stays : (r s : Run) (t : Ticket) → IsFree gives r → NothingSettles gives r → IsLegalRun gives s → Appends r s (hands_out t) → AppendsByOne gives r s
   handed-stays r s t f quiet l a =
       after-one r s f.legal (hands_out t) a
       (handed-by_one gives (meant gives r) (past_of r) quiet (name_at s.names t.job) t.activity t.attempt
       (legal-there (meant gives s) (meant gives r) (before r s) (past_of r) (history.handed_out (name_at s.names t.job) t.activity t.attempt) (ap (meaning gives) a.document) (before-same gives r s (hands_out t) f.legal a) (handed gives r s t l a))
       (nobody r f))
 
-  pub stays-same : (r s : Run) → s ≡ r → StaysByOne gives r s
-  stays-same r s e was = subst (λ (x : Run). is_by_one (meant gives x) (past_of x) ≡ true) (sym e) was
+  pub stays-same : (r s : Run) → s ≡ r → AppendsByOne gives r s
+  stays-same r s e = subst (AppendsByOne gives r) (sym e) (record { document = refl; appended = []; past = refl; by_one = refl })
 
-  pub stays-then : (r s t : Run) → StaysByOne gives r s → StaysByOne gives s t → StaysByOne gives r t
-  stays-then r s t f g was = g (f was)
+  pub stays-then : (r s t : Run) → AppendsByOne gives r s → AppendsByOne gives s t → AppendsByOne gives r t
+  stays-then r s t f g = record {
+    document = g.document ∙ f.document;
+    appended = g.appended ++ f.appended;
+    past = g.past ∙ ap (λ p. g.appended ++ p) f.past ∙ sym (append_assoc g.appended f.appended (past_of r));
+    by_one = joined (meant gives r) (past_of r) g.appended f.appended f.by_one
+        (sym (λ i. is_by_one_from (ap (meaning gives) f.document i) (f.past i) g.appended) ∙ g.by_one);
+  }
+
+  -- where all before was done by one worker, all is
+  pub stays-by_one : (r s : Run) → AppendsByOne gives r s → IsByOne gives r → IsByOne gives s
+  stays-by_one r s f was =
+      (λ i. is_by_one (ap (meaning gives) f.document i) (f.past i)) ∙ with-base (meant gives r) (past_of r) f.appended was f.by_one

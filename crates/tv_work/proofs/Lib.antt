@@ -13,3 +13,4 @@ pub mod Starts
 pub mod Moving
 pub mod Orders
 pub mod Readings
+pub mod Locks

@@ -6,7 +6,7 @@ use Rattle.tv_history.specs.Calls.{hands_out, out_now}
 use Rattle.tv_history.specs.Runs.{IsLegalRun, Run}
 use Rattle.tv_history.specs.declared.ticket.Ticket.{Ticket}
 use Rattle.tv_work.specs.Asked.{accepted_tries}
-use Rattle.tv_work.specs.ByOne.{StaysByOne}
+use Rattle.tv_work.specs.ByOne.{AppendsByOne}
 use Rattle.tv_work.specs.Working.{GoesOn, IsFree, IsHanded, IsMoving, IsWorkedOff}
 use Rattle.tv_work.proofs.Asked.{handed-tries}
 use Rattle.tv_work.proofs.ByOne.{handed-stays, stays-same}
@@ -35,6 +35,6 @@ module _ (gives : Giving) (r s : Run) (f : IsFree gives r) (l : IsLegalRun gives
   moved-tries None h = ap accepted_tries h.same
   moved-tries (Some t) h = handed-tries gives r s t f.legal h.handed
 
-  pub moved-by_one : (o : Option Ticket) → IsMoving gives r s o false → StaysByOne gives r s
+  pub moved-by_one : (o : Option Ticket) → IsMoving gives r s o false → AppendsByOne gives r s
   moved-by_one None h = stays-same gives r s h.same
   moved-by_one (Some t) h = handed-stays gives r s t f h.settled l h.handed

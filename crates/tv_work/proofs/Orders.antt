@@ -36,10 +36,11 @@ use Rattle.tv_history.specs.Calls.{IsTask}
 use Rattle.tv_history.specs.Runs.{IsLegalRun, Run, meant, past_of}
 use Rattle.tv_board.specs.Asked.{call_for}
 use Rattle.tv_work.specs.Asked.{AreAsksOf, AsksABeginning, AsksAtMostOneMore, AsksEach, AsksInOrder, accepted_tries, call_of}
-use Rattle.tv_work.specs.ByOne.{IsByOne, StaysByOne}
+use Rattle.tv_work.specs.ByOne.{IsByOne, AppendsByOne}
 use Rattle.tv_work.specs.InOrder.{HasOnlySettled}
 use Rattle.tv_work.specs.Working.{IsWorkedOff}
 use Rattle.tv_work.proofs.Answers.{IsTryOf, same-call, try-of}
+use Rattle.tv_work.proofs.ByOne.{stays-by_one}
 use Rattle.tv_work.proofs.Ends.{well-formed}
 use Rattle.tv_work.proofs.Runs.{jobs-of}
 use Rattle.tv_work.proofs.Starts.{IsQuiet, quiet-start}
@@ -202,7 +203,7 @@ pub record IsFrom (gives : Giving) (r s : Run) : Type 0 where
   pub document : s.document ≡ r.document
   pub settled : HasOnlySettled r
   pub legal : IsLegalRun gives s
-  pub stays : StaysByOne gives r s
+  pub stays : AppendsByOne gives r s
 
 module _ (gives : Giving) (r s : Run) (from : IsFrom gives r s) where
   pub formed-now : is_formed s.document ≡ true
@@ -212,7 +213,7 @@ module _ (gives : Giving) (r s : Run) (from : IsFrom gives r s) where
   start = quiet-start gives r from.settled
 
   pub one-now : IsByOne gives s
-  one-now = from.stays start.by_one
+  one-now = stays-by_one gives r s from.stays start.by_one
 
   -- the asks since are those that were accepted, of the meaning of now
   since : (asks : List (JobName × Ask)) → accepted_tries s ≡ accepted_tries r ++ map (ask_try gives) asks → accepted_tries s ≡ map (ask_try gives) asks

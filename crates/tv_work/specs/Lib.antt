@@ -6,6 +6,9 @@ pub mod ByOne
 pub mod Ran
 pub mod Called
 pub mod Stuck
+pub mod OneChain
+pub mod Locking
+pub mod LockCodes
 pub use Rattle.tv_history.specs.Tries
 pub use Rattle.tv_history.specs.Runs
 pub use Rattle.tv_history.specs.Alone

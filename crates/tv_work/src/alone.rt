@@ -3,7 +3,7 @@ ghost use Rattle.std.specs.Prelude.{◌≡◌, ◌≤◌, IfOk, OnErr, OnOk, tru
 ghost use Rattle.tv_history.specs.Calls.{out_now};
 ghost use Rattle.tv_history.specs.Runs.{IsLegalRun};
 ghost use Rattle.tv_work.specs.Asked.{AsksABeginning, AsksAtMostOneMore, AsksEach, AsksInOrder, accepted_tries};
-ghost use Rattle.tv_work.specs.ByOne.{StaysByOne};
+ghost use Rattle.tv_work.specs.ByOne.{AppendsByOne};
 ghost use Rattle.tv_work.specs.InOrder.{AcceptsABeginning, AcceptsInOrder, HasOnlySettled};
 ghost use Rattle.tv_work.specs.Working.{GoesOn, IsFree, IsHanded, IsMoving, IsOnlyOut, IsTurn, IsWorkedOff};
 
@@ -16,8 +16,9 @@ use tv_value::NoMemory;
 /// outcome, and so on until nothing is on offer. It ends with the run done. After `Err` one try may be out.
 ///
 /// It makes one call of the asker for each try whose outcome it has accepted, in that order, so as many as tries are left; after
-/// `Err` the answer to one more, which is still out, may be lost. Where the history so far is that of one worker it stays so: a
-/// try is handed out only where nothing can be settled and none is out, and none is taken back. So from a board that has only
+/// `Err` the answer to one more, which is still out, may be lost. Whoever worked on the board before, what is appended is one
+/// worker's: a try is handed out only where nothing can be settled and none is out, and none is taken back. So where nothing ran
+/// before, the open instances are one chain (`laws::one_worker_opens_one_chain`), and from a board that has only
 /// settled things it asks, and accepts, in the order of one worker: the whole of it, or after `Err` a beginning. The cost is that
 /// of the board's calls and of the asker's: of the former some for each job, list and passed fault,
 /// each with a look at the steps of its instance and of those around it, less the first ones that
@@ -36,7 +37,7 @@ pub fn run_alone<V: Services, A: Asker<Services = V>>(
         (A.calls asker.new) board.old board.new) }
     ensures lost { OnErr result (AsksAtMostOneMore V.gives (A.calls asker.old)
         (A.calls asker.new) board.old board.new) }
-    ensures by_one { StaysByOne V.gives board.old board.new }
+    ensures by_one { AppendsByOne V.gives board.old board.new }
     ensures in_order { OnOk result (HasOnlySettled board.old
         → AsksInOrder V.gives board.old.document (A.calls asker.old) (A.calls asker.new)) }
     ensures beginning { OnErr result (HasOnlySettled board.old
@@ -67,7 +68,7 @@ fn turn<V: Services, A: Asker<Services = V>>(
         (A.calls asker.new) board.old board.new) }
     ensures lost { OnErr result (AsksAtMostOneMore V.gives (A.calls asker.old)
         (A.calls asker.new) board.old board.new) }
-    ensures by_one { StaysByOne V.gives board.old board.new }
+    ensures by_one { AppendsByOne V.gives board.old board.new }
     ensures reached { A.reaches asker.old asker.new }
 {
     match settle_all(board)? {
@@ -87,7 +88,7 @@ fn settle_all<V: Services>(board: &mut Board<V>) -> Result<Option<Ticket>, NoMem
     ensures handed { IfOk result (IsHanded V.gives board.new) }
     ensures few { out_now V.gives board.new ≤ 1 }
     ensures none_accepted { accepted_tries board.new ≡ accepted_tries board.old }
-    ensures by_one { StaysByOne V.gives board.old board.new }
+    ensures by_one { AppendsByOne V.gives board.old board.new }
 {
     let mut handed = None;
     'settling: while move_on(board, &mut handed)? {}
@@ -95,7 +96,10 @@ fn settle_all<V: Services>(board: &mut Board<V>) -> Result<Option<Ticket>, NoMem
 }
 
 /// Settles one thing, and tells whether there was one; where there was none, the first try on offer is handed out.
-fn move_on<V: Services>(board: &mut Board<V>, handed: &mut Option<Ticket>) -> Result<bool, NoMemory>
+pub(crate) fn move_on<V: Services>(
+    board: &mut Board<V>,
+    handed: &mut Option<Ticket>,
+) -> Result<bool, NoMemory>
     ensures moved { IfOk result (λ more. IsMoving V.gives board.old board.new handed.new more) }
     ensures refused { OnErr result (board.new ≡ board.old) }
     ensures legal { IsLegalRun V.gives board.new }
@@ -131,7 +135,7 @@ fn ask_for<V: Services, A: Asker<Services = V>>(
         (A.calls asker.new) board.old board.new) }
     ensures lost { OnErr result (AsksAtMostOneMore V.gives (A.calls asker.old)
         (A.calls asker.new) board.old board.new) }
-    ensures by_one { StaysByOne V.gives board.old board.new }
+    ensures by_one { AppendsByOne V.gives board.old board.new }
     ensures reached { A.reaches asker.old asker.new }
 {
     match board.ask_and_accept(alloc, ticket, asker) {

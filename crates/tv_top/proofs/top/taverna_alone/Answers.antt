@@ -1,16 +1,25 @@
-use Rattle.std.proofs.Common.{subst, sym}
 use Rattle.tv_top.specs.Answers.{answer_of}
-use Rattle.tv_top.specs.Asked.{refusal_status, texts_of}
-use Rattle.tv_top.specs.Headline.{IsComplete, left_by, sink_told, source_told}
+use Rattle.tv_top.specs.Asked.{texts_of}
+use Rattle.tv_top.specs.Asking.{asks_of}
+use Rattle.tv_top.specs.Headline.{sink_told, source_told}
 use Rattle.tv_top.specs.Words.{command_of}
-use Rattle.tv_top.proofs.Completed.{completed}
+use Rattle.tv_top.proofs.Finishing.{asked-of, promised}
 use Rattle.tv_top.proofs.top.taverna_alone.Goals as goal
 
-pub returns-in-Err-clause-complete : goal.returns-in-Err-clause-complete
-returns-in-Err-clause-complete g c =
-    let asked = command_of (texts_of c.args.words.now) in
-    let answer = answer_of g.A.Services.Services.gives g.A.Services.Services.knows asked in
-    let source = source_told g.S.Source c.args.source.now c.carried_out-ended.new.source in
-    let out = sink_told g.K.Sink c.args.out.now c.carried_out-ended.new.out in
-    subst (λ st. IsComplete answer source out st) (sym c.told.ensures.status)
-    (completed (left_by asked) answer source out (refusal_status c.in-Err.refusal) c.in-Err.ensures.cause)
+pub returns-clause-promised : goal.returns-clause-promised
+returns-clause-promised g c =
+    let command = command_of (texts_of c.args.words.now) in
+    let e = c.answered-answer.ensures in
+    let f = c.finished.ensures in
+    promised g.S.Source g.K.Sink g.E.Sink command (answer_of g.A.Services.Services.gives g.A.Services.Services.knows command)
+    c.args.source.now c.answered-answer.new.source c.args.out.now c.finished.new.out c.args.err.now c.finished.new.err c.finished.result
+    c.answered-answer.result e.answer e.usage e.taken e.unread f.finished f.silent f.unsaid
+
+pub returns-clause-asked : goal.returns-clause-asked
+returns-clause-asked g c =
+    let command = command_of (texts_of c.args.words.now) in
+    asked-of (asks_of g.A.Services.Services.gives g.A.Services.Services.knows command)
+    (source_told g.S.Source c.args.source.now c.answered-answer.new.source) (g.A.Asker.calls c.args.asker.now)
+    (g.A.Asker.calls c.answered-answer.new.asker) (sink_told g.K.Sink c.args.out.now c.finished.new.out)
+    (sink_told g.E.Sink c.args.err.now c.finished.new.err) c.answered-answer.result c.finished.result c.finished.ensures.finished
+    c.answered-answer.ensures.asked
