@@ -27,7 +27,7 @@ workers/threads.patch, with what is then to be said of it in the pages. With `--
 
 Each prints what it counted; the status is 0 where nothing differs. The same seed draws the same documents. `--workers` is how many
 programs run beside each other, 2 where it isn't said, and `--program` the program that is tried, crates/tv_main/out/tv_main where it
-isn't said (./taverna run builds it). `refused` wants a C compiler, `cc`. `--slow` and `races` build a program of their own by
+isn't said (rt ci builds it). `refused` wants a C compiler, `cc`. `--slow` and `races` build a program of their own by
 `building.py`, in some minutes; `--keep FOLDER` keeps it there, and takes what is there already.
 """
 import argparse
@@ -301,7 +301,7 @@ def main():
             sys.exit(0 if does(words) else 1)
     words.program = os.path.abspath(words.program)
     if not os.access(words.program, os.X_OK):
-        sys.exit(f"{words.program} isn't built: run ./taverna once")
+        sys.exit(f"{words.program} isn't built: rt ci builds it")
     sys.exit(0 if does(words) else 1)
 
 
