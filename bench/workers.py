@@ -6,8 +6,6 @@
     python3 bench/workers.py speed [--slow]
     python3 bench/workers.py races
 
-    (each with --threads)
-
 `same` takes each document of tests/rows and of examples/, some that are generated, and so many random ones (with nested flows, faults,
 retries, failover, control links, merges, crosses, dots and limits of jobs), and runs each by 1, 2, 3, 4, 8, 16 and 64 workers: status,
 output and standard error must be those of a run that names no workers.
@@ -20,10 +18,6 @@ how many times as fast four workers are.
 `races` runs three documents by 4 workers under a thread sanitizer, and prints each race that it tells of. Where valgrind is there, it
 prints also what helgrind counts on the program; this says little, since helgrind doesn't see the locks of std, which are made of atomic
 words, and so takes what they guard for unguarded.
-
-The program starts no threads: what goes by `--workers` isn't proved yet, since that a board may cross threads is owed. It stands in
-workers/threads.patch, with what is then to be said of it in the pages. With `--threads` the program that is tried is built with that, by
-`building.py`; without it all of this tells only that `--workers` changes nothing.
 
 Each prints what it counted; the status is 0 where nothing differs. The same seed draws the same documents. `--workers` is how many
 programs run beside each other, 2 where it isn't said, and `--program` the program that is tried, crates/tv_main/out/tv_main where it
@@ -208,18 +202,6 @@ def with_slow_services(folder):
     changed(os.path.join(folder, "crates", NAME, "src", "main.rt"), SLOWER)
 
 
-def with_threads(folder):
-    """Puts into the crates in this folder what goes by threads, which isn't proved."""
-    patch = os.path.join(PARTS, "threads.patch")
-    subprocess.run(["git", "apply", "--include=crates/*", patch], cwd=folder, check=True, env={**os.environ, "GIT_CEILING_DIRECTORIES": folder})
-
-
-def by_threads(folder):
-    """The tree's crates with what goes by threads."""
-    building.crates(folder)
-    with_threads(folder)
-
-
 def changed(path, changes):
     """Changes a file: each of these texts stands there once."""
     with open(path, encoding="utf-8") as it:
@@ -237,7 +219,7 @@ def speed(words):
     good = table(words.program, LOCAL, "four over one", lambda times: times[-1] / times[0])
     if words.slow:
         with folder_of(words, "slow") as folder:
-            program = building.built(folder, NAME, lambda it: (with_slow_services(it), words.threads and with_threads(it)))
+            program = building.built(folder, NAME, with_slow_services)
             print("with services that compute for about a millisecond")
             good = table(program, SLOW, "times as fast by four", lambda times: times[0] / times[-1]) and good
     return good
@@ -253,7 +235,7 @@ def raced():
 
 def races(words):
     with folder_of(words, "sanitized") as folder:
-        program, found = building.sanitized(folder, NAME, by_threads if words.threads else building.crates), 0
+        program, found = building.sanitized(folder, NAME, building.crates), 0
         for case in raced():
             due = cases.ended(words.program, case)
             status, out, err = cases.ended(program, case, 4, env={**os.environ, "TSAN_OPTIONS": "exitcode=0"})
@@ -290,15 +272,10 @@ def main():
     reader.add_argument("--count", type=int)
     reader.add_argument("--seed", type=int, default=1)
     reader.add_argument("--slow", action="store_true")
-    reader.add_argument("--threads", action="store_true")
     reader.add_argument("--program", default=os.path.join(TOP, "crates", NAME, "out", NAME))
     words = trials.words(reader)
     does, count = COMMANDS[words.command]
     words.count = count if words.count is None else words.count
-    if words.threads:
-        with folder_of(words, "threads") as folder:
-            words.program = building.built(folder, NAME, by_threads)
-            sys.exit(0 if does(words) else 1)
     words.program = os.path.abspath(words.program)
     if not os.access(words.program, os.X_OK):
         sys.exit(f"{words.program} isn't built: rt ci builds it")

@@ -9,7 +9,7 @@ use tv_local::{LocalGate, LocalServices};
 use tv_value::{Items, NoMemory, Value};
 
 /// Capitals of two texts, and small letters of them.
-const CHAIN: &str =
+pub(crate) const CHAIN: &str =
     r#"{"taverna":1,"main":"m","flows":{"m":{"inputs":{"x":1},"steps":{"p":{"inputs":{"a":{"depth":0,"from":{"input":"x"}}},"outputs":{"o":0},"activities":[{"service":"upper"}]},"q":{"inputs":{"a":{"depth":0,"from":{"step":"p","port":"o"}}},"outputs":{"o":0},"activities":[{"service":"lower"}]}},"outputs":{"out":{"step":"q","port":"o"}}}},"inputs":{"x":["a","b"]}}"#;
 
 /// A text that fails twice before it comes through.

@@ -1,8 +1,9 @@
-//! Tests of whole runs of the top calls over memory: what they ask, and what fails.
+//! Tests of whole runs of the top calls over memory: what they ask, what fails, and runs by many workers.
 //!
 //! - `runs`: runs of the two top calls over streams that may fail
 //! - `calls`: what runs ask, and how often they ask a gate
 //! - `failing`: reads and writes that fail, and want of memory
+//! - `workers`: runs by many workers
 #![tactic(auto)]
 
 #[cfg(test)]
@@ -11,3 +12,5 @@ mod calls;
 mod failing;
 #[cfg(test)]
 mod runs;
+#[cfg(test)]
+mod workers;

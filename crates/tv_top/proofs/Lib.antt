@@ -5,7 +5,6 @@ pub mod Requests
 mod Computed
 pub mod Questions
 pub mod Traced
-mod Numbers
 mod Leaving
 mod Completed
 mod Finishing

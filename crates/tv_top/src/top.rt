@@ -1,19 +1,20 @@
 //! The top calls.
 ghost use Rattle.std.specs.Prelude.{◌+◌, ◌≡◌, ◌≢◌, ◌≤◌, ◌↔◌, Some, None, OnErr, OnOk};
 ghost use Rattle.tv_io.specs.ReadOf.{TakesAtMost};
-ghost use Rattle.tv_top.specs.Words.{ReadsNothing, gen};
+ghost use Rattle.tv_top.specs.Words.{IsForMany, IsForOne, ReadsNothing, gen};
 ghost use Rattle.tv_top.specs.CommandViews.{IsBounded, command_view, reading_view};
 ghost use Rattle.tv_top.specs.Answers.{answer_of, byte_limit, generated_reading, reading_of};
-ghost use Rattle.tv_top.specs.Asked.{GivesRun, asked_for, refusal_status, refusal_line, ended};
+ghost use Rattle.tv_top.specs.Asked.{GivesRun, asked_for, refusal_status, refusal_line, ended, texts_of};
 ghost use Rattle.tv_top.specs.Asking.{asks_of, IsAsked, IsAskedFor};
 ghost use Rattle.tv_top.specs.Headline.{IsAnswered, IsRead, IsReported, Source as ASource, left_by, read_whole, source_told, sink_told, unread};
 ghost use Rattle.tv_top.specs.Promised.{IsFinished, IsPromised, OfSource};
 
 use crate::answering::{answer, summary};
+use crate::many::{generated_and_run, read_and_run};
 use crate::reading::{checked_run, run_of_document};
 use crate::refusal::Refusal;
 use crate::status::Status;
-use crate::words::{Command, Reading, command_of};
+use crate::words::{Command, Reading, Request, request_of};
 use std::alloc::Global;
 use std::sync::Wait;
 use std::thread::Threads;
@@ -26,8 +27,8 @@ use tv_value::Text;
 /// The most bytes that a document has.
 const BYTE_LIMIT: usize = 1 << 24;
 
-/// Does what the words ask for: reads the source to its end, writes the answer to `out`, and, unless the status is
-/// `Done`, the status's line to `err`. It always returns.
+/// Does what the words ask for with one worker, whatever `--workers` says: reads the source to its end, writes the answer to `out`,
+/// and, unless the status is `Done`, the status's line to `err`. It always returns.
 ///
 /// The answer is a function of the words and the bytes, for the services of the asker's type. Nothing is written to
 /// `out` before all of it is made. `check` takes near linear time in the document. A run goes over a board (`tv_board`):
@@ -56,8 +57,12 @@ pub fn taverna_alone<S: Source, K: Sink, E: Sink, A: Asker>(
     finished(answer, out, err)
 }
 
-/// Does what the words ask for, as `taverna_alone` does, over a gate that many threads may ask. No command uses the gate
-/// yet: each is done by `taverna_alone` with the asker.
+/// Does what the words ask for: `run` and `gen` with more than one worker by as many threads, each of which asks the gate, and all
+/// else as `taverna_alone` does, with the asker.
+///
+/// What is written is the same for every number of workers and in whatever order they come to their turn. With more than one the
+/// asker is left as it was, and a service may be asked again for a try whose worker found no memory. If it returns, it keeps its
+/// promise; that threads get their turn, and so that it returns, is not promised.
 pub fn taverna<
     R: Threads + Wait + Sync,
     S: Source,
@@ -66,23 +71,26 @@ pub fn taverna<
     G: Gate,
     A: Asker<Services = G::Services>,
 >(
-    _rt: &R,
+    rt: &R,
     alloc: Global,
     words: &[String],
     source: &mut S,
     out: &mut K,
     err: &mut E,
-    _gate: &G,
+    gate: &G,
     asker: &mut A,
 ) -> Status
     ensures promised { IsPromised ⟦<S as Source>⟧ ⟦<K as Sink>⟧ ⟦<E as Sink>⟧ (asked_for words.now)
         (answer_of G.Services.gives G.Services.knows (asked_for words.now))
         source.old source.new out.old out.new err.old err.new result }
-    ensures asked { IsAsked (asks_of G.Services.gives G.Services.knows (asked_for words.now))
+    ensures asked { IsForOne (texts_of words.now)
+        → IsAsked (asks_of G.Services.gives G.Services.knows (asked_for words.now))
         (source_told ⟦<S as Source>⟧ source.old source.new)
         (A.calls asker.old) (A.calls asker.new) result }
+    ensures unasked { IsForMany (texts_of words.now) → asker.new ≡ asker.old }
 {
-    taverna_alone(alloc, words, source, out, err, asker)
+    let reply = answered_by_workers(rt, alloc, words, source, gate, asker);
+    finished(reply, out, err)
 }
 
 /// Writes the text, where there is one, and else the line of the refusal, and gives the status.
@@ -113,7 +121,7 @@ fn told<E: Sink>(refusal: &Refusal, err: &mut E) -> Status
     refusal.status()
 }
 
-/// The text to print, or the refusal.
+/// The text to print, or the refusal, by one worker.
 fn answered<S: Source, A: Asker>(
     alloc: Global,
     words: &[String],
@@ -132,13 +140,51 @@ fn answered<S: Source, A: Asker>(
         (source_told ⟦<S as Source>⟧ source.old source.new)
         (A.calls asker.old) (A.calls asker.new) result }
 {
-    match command_of(alloc, words)? {
-        Some(command) => carried_out(alloc, command, source, asker),
+    match request_of(alloc, words)? {
+        Some(request) => carried_out(alloc, request.alone(), source, asker),
         None => Err(Refusal::Plain(Status::Usage)),
     }
 }
 
-/// The text to print for a command, or the refusal.
+/// The text to print, or the refusal, by as many workers as the words ask for.
+fn answered_by_workers<
+    R: Threads + Wait + Sync,
+    S: Source,
+    G: Gate,
+    A: Asker<Services = G::Services>,
+>(
+    rt: &R,
+    alloc: Global,
+    words: &[String],
+    source: &mut S,
+    gate: &G,
+    asker: &mut A,
+) -> Result<Text, Refusal>
+    ensures answer { OfSource (asked_for words.now)
+        (source_told ⟦<S as Source>⟧ source.old source.new)
+        (λ s. IsAnswered (left_by (asked_for words.now))
+        (answer_of G.Services.gives G.Services.knows (asked_for words.now)) s result) }
+    ensures usage { ended result ≢ Status.NoMemory
+        → ((ended result ≡ Status.Usage) ↔ (asked_for words.now ≡ None)) }
+    ensures taken { TakesAtMost (byte_limit + 1) (S.left source.old) (S.left source.new) }
+    ensures unread { ReadsNothing (asked_for words.now) → source.new ≡ source.old }
+    ensures asked { IsForOne (texts_of words.now)
+        → IsAskedFor (asks_of G.Services.gives G.Services.knows (asked_for words.now))
+        (source_told ⟦<S as Source>⟧ source.old source.new)
+        (A.calls asker.old) (A.calls asker.new) result }
+    ensures unasked { IsForMany (texts_of words.now) → asker.new ≡ asker.old }
+{
+    match request_of(alloc, words)? {
+        Some(Request::One(command)) => carried_out(alloc, command, source, asker),
+        Some(Request::Run { workers }) => read_and_run(rt, alloc, source, gate, workers),
+        Some(Request::Gen { number, workers }) => generated_and_run(
+            rt, alloc, number, gate, workers,
+        ),
+        None => Err(Refusal::Plain(Status::Usage)),
+    }
+}
+
+/// The text to print for a command, or the refusal, by one worker.
 fn carried_out<S: Source, A: Asker>(
     alloc: Global,
     command: Command,
@@ -206,7 +252,7 @@ fn generated_and_answered<A: Asker>(
 }
 
 /// Makes the document of a number, and checks it.
-fn run_generated<V: Services>(alloc: Global, number: u32) -> Result<CheckedRun, Refusal>
+pub(crate) fn run_generated<V: Services>(alloc: Global, number: u32) -> Result<CheckedRun, Refusal>
     requires some { 1 ≤ number }
     requires most { number ≤ 200 }
     ensures run { GivesRun result (generated_reading V.knows number) }
@@ -218,7 +264,10 @@ fn run_generated<V: Services>(alloc: Global, number: u32) -> Result<CheckedRun, 
 }
 
 /// Reads a document to its end, and checks it.
-fn run_read<S: Source, V: Services>(alloc: Global, source: &mut S) -> Result<CheckedRun, Refusal>
+pub(crate) fn run_read<S: Source, V: Services>(
+    alloc: Global,
+    source: &mut S,
+) -> Result<CheckedRun, Refusal>
     ensures read { IsRead read_whole (reading_of V.knows)
         (source_told ⟦<S as Source>⟧ source.old source.new) result }
     ensures taken { TakesAtMost (byte_limit + 1) (S.left source.old) (S.left source.new) }

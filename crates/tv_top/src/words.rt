@@ -1,15 +1,28 @@
 //! Words and commands.
-ghost use Rattle.std.specs.Prelude.{◌≡◌, IfOk, IfSome, option_map};
+ghost use Rattle.std.specs.Prelude.{◌≡◌, IfOk, IfSome, Some, nat_lt, option_map};
 ghost use Rattle.tv_words.specs.CommandViews.{command_view as told_view};
-ghost use Rattle.tv_top.specs.Words.{carried_out, command_of};
+ghost use Rattle.tv_words.specs.Commands as line;
+ghost use Rattle.tv_words.specs.Stated as stated;
+ghost use Rattle.tv_top.specs.Words.{carried_out, command_of, is_for_many, workers_of};
 ghost use Rattle.tv_top.specs.Asked.{texts_of};
-ghost use Rattle.tv_top.specs.CommandViews.{IsBounded, command_view};
+ghost use Rattle.tv_top.specs.CommandViews.{IsBoundedRequest, command_view, is_many, request_view};
 
 use std::alloc::Global;
 use tv_value::{Name, NoMemory, Place};
 use tv_words::{Command as Told, read_words};
 
-/// What the words ask for.
+/// What the words ask for, by who carries it out where there are threads.
+#[derive(Drop)]
+pub(crate) enum Request {
+    /// One worker.
+    One(Command),
+    /// So many workers, 2 to 64: read a document, run it, and write the result line.
+    Run { workers: u32 },
+    /// So many workers, 2 to 64: run the generated document of this number, 1 to 200, and write the summary.
+    Gen { number: u32, workers: u32 },
+}
+
+/// What one worker does.
 #[derive(Drop)]
 pub(crate) enum Command {
     /// Something of a document that is read.
@@ -33,27 +46,59 @@ pub(crate) enum Reading {
     Forward { port: Name, place: Place },
 }
 
-/// The command that the words give, or `None` where they give none.
-pub(crate) fn command_of(alloc: Global, words: &[String]) -> Result<Option<Command>, NoMemory>
-    ensures command { IfOk result (λ command. option_map command_view command
+impl Request {
+    /// The same for one worker.
+    pub(crate) fn alone(self) -> Command
+        ensures { command_view result ≡ request_view self }
+    {
+        match self {
+            Request::One(command) => command,
+            Request::Run { .. } => Command::Of(Reading::Run),
+            Request::Gen { number, .. } => Command::Gen { number },
+        }
+    }
+}
+
+/// What the words ask for, or `None` where they give no command.
+pub(crate) fn request_of(alloc: Global, words: &[String]) -> Result<Option<Request>, NoMemory>
+    ensures command { IfOk result (λ request. option_map request_view request
         ≡ command_of (texts_of words.now)) }
-    ensures bounded { IfOk result (λ command. IfSome command IsBounded) }
+    ensures many { IfOk result (λ request. is_many request
+        ≡ is_for_many (line.command_of (texts_of words.now))) }
+    ensures bounded { IfOk result (λ request. IfSome request IsBoundedRequest) }
 {
     match read_words(alloc, words)? {
-        Some(told) => Ok(Some(carried_out(told))),
+        Some(told) => Ok(Some(requested(told))),
         None => Ok(None),
     }
 }
 
-fn carried_out(told: Told) -> Command
-    ensures { command_view result ≡ carried_out (told_view told) }
+fn requested(told: Told) -> Request
+    requires { stated.IsBounded (told_view told) }
+    ensures command { request_view result ≡ carried_out (told_view told) }
+    ensures many { is_many (Some result) ≡ nat_lt 1 (workers_of (told_view told)) }
+    ensures bounded { IsBoundedRequest result }
 {
     match told {
-        Told::Run { .. } => Command::Of(Reading::Run),
-        Told::Check => Command::Of(Reading::Check),
-        Told::Trace => Command::Of(Reading::Trace),
-        Told::Lineage { port, place } => Command::Of(Reading::Lineage { port, place }),
-        Told::Forward { port, place } => Command::Of(Reading::Forward { port, place }),
-        Told::Gen { number, .. } => Command::Gen { number },
+        Told::Run { workers } => if workers > 1 {
+            Request::Run { workers }
+        } else {
+            Request::One(Command::Of(Reading::Run))
+        },
+        Told::Check => Request::One(Command::Of(Reading::Check)),
+        Told::Trace => Request::One(Command::Of(Reading::Trace)),
+        Told::Lineage { port, place } => Request::One(Command::Of(Reading::Lineage {
+            port,
+            place,
+        })),
+        Told::Forward { port, place } => Request::One(Command::Of(Reading::Forward {
+            port,
+            place,
+        })),
+        Told::Gen { number, workers } => if workers > 1 {
+            Request::Gen { number, workers }
+        } else {
+            Request::One(Command::Gen { number })
+        },
     }
 }

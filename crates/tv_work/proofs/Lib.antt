@@ -14,3 +14,4 @@ pub mod Moving
 pub mod Orders
 pub mod Readings
 pub mod Locks
+pub mod Sent

@@ -17,8 +17,8 @@ use tv_value::NoMemory;
 ///
 /// It makes one call of the asker for each try whose outcome it has accepted, in that order, so as many as tries are left; after
 /// `Err` the answer to one more, which is still out, may be lost. Whoever worked on the board before, what is appended is one
-/// worker's: a try is handed out only where nothing can be settled and none is out, and none is taken back. So where nothing ran
-/// before, the open instances are one chain (`laws::one_worker_opens_one_chain`), and from a board that has only
+/// worker's: a try is handed out only where nothing can be settled and none is out, and none is taken back. So where no job
+/// runs when it begins, the open instances are one chain (`laws::one_worker_opens_one_chain`), and from a board that has only
 /// settled things it asks, and accepts, in the order of one worker: the whole of it, or after `Err` a beginning. The cost is that
 /// of the board's calls and of the asker's: of the former some for each job, list and passed fault,
 /// each with a look at the steps of its instance and of those around it, less the first ones that

@@ -1,8 +1,8 @@
 //! What workers share: a board under a lock, and what each of them does to it there.
-ghost use Rattle.std.specs.Prelude.{◌≡◌, ◌+◌, ◌||◌, IfOk, OnErr, sum, true, vec_len};
+ghost use Rattle.std.specs.Prelude.{◌≡◌, ◌+◌, ◌||◌, IfErr, IfOk, OnErr, false, sum, true, vec_len};
 ghost use Rattle.tv_gate.specs.Views.{outcome_view};
 ghost use Rattle.tv_board.specs.Refusals.{answered};
-ghost use Rattle.tv_history.specs.Calls.{IsTask};
+ghost use Rattle.tv_history.specs.Calls.{IsTask, IsTaskFault};
 ghost use Rattle.tv_history.specs.Answers.{question};
 ghost use Rattle.tv_history.specs.Histories.{is_done};
 ghost use Rattle.tv_history.specs.Runs.{IsLegalRun, past_of};
@@ -86,10 +86,11 @@ impl<V: Services, N: Naming> Model for Locked<V, N> {
 }
 
 impl<V: Services, N: Naming> Locked<V, N> {
-    /// The named board, as it is when workers begin.
+    /// The named board, with nothing in its book, and not stopped.
     pub fn new(board: Board<V>, accepted: Book<N>) -> Locked<V, N>
         requires began { board ≡ N.began }
         requires none { accepted.total ≡ 0 }
+        ensures { result ≡ record { board = board; accepted = 0; stopped = false } }
     {
         board.is_lawful();
         Locked {
@@ -144,8 +145,9 @@ impl<V: Services, N: Naming> Locked<V, N> {
 
     /// What a ticket asks, where its try is out. Linear in the inputs.
     pub fn task(&self, ticket: &Ticket) -> Result<Task, TaskFault>
-        ensures { IfOk result (λ t. IsTask V.gives self.now.board (question t.ticket t.service
+        ensures task { IfOk result (λ t. IsTask V.gives self.now.board (question t.ticket t.service
             t.inputs t.outputs) × (t.ticket ≡ ticket.now)) }
+        ensures fault { IfErr result (λ f. IsTaskFault V.gives self.now.board ticket.now f) }
     {
         self.board.task(ticket)
     }

@@ -1,0 +1,7 @@
+mod Steps
+mod Nodes
+mod Gives
+mod Values
+mod Below
+mod Here
+mod Known

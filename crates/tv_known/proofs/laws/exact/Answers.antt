@@ -1,0 +1,5 @@
+use Rattle.tv_known.proofs.Known.{known_outputs-are_exact, known_ports-are_exact}
+use Rattle.tv_known.proofs.laws.exact.Goals as goal
+
+pub returns : goal.returns
+returns c = record { outputs = known_outputs-are_exact; ports = known_ports-are_exact }

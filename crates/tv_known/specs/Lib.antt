@@ -1,0 +1,4 @@
+pub mod Meant
+pub mod Frames
+pub mod Stated
+pub mod Worked

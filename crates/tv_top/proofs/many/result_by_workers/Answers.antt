@@ -1,0 +1,15 @@
+use Rattle.std.proofs.Common.{ap, ◌∙◌}
+use Rattle.tv_check.specs.RunViews.{run_view}
+use Rattle.tv_model.specs.Meanings.{meaning}
+use Rattle.tv_model.specs.TotalsViews.{totals_view}
+use Rattle.tv_report.specs.ResultLines.{line_of_result}
+use Rattle.tv_top.proofs.Plainly.{line-plain}
+use Rattle.tv_top.proofs.many.result_by_workers.Goals as goal
+
+pub returns : goal.returns
+returns g c =
+    let m = meaning g.G.Services.Services.gives (run_view c.args.run) in
+    c.in_ok-line.ensures
+    ∙ ap (λ os. line_of_result os (totals_view c.in_ok-outputs.totals)) c.in_ok-outputs.ensures.run.0
+    ∙ line-plain m.outputs (totals_view c.in_ok-outputs.totals)
+    ∙ ap (line_of_result m.outputs) c.in_ok-outputs.ensures.run.1

@@ -1,0 +1,25 @@
+use Rattle.tv_top.specs.Answers.{answer_of}
+use Rattle.tv_top.specs.Asked.{texts_of}
+use Rattle.tv_top.specs.Asking.{asks_of}
+use Rattle.tv_top.specs.Headline.{sink_told, source_told}
+use Rattle.tv_top.specs.Words.{command_of}
+use Rattle.tv_top.proofs.Finishing.{asked-of, promised}
+use Rattle.tv_top.proofs.top.taverna.Goals as goal
+
+pub returns-clause-promised : goal.returns-clause-promised
+returns-clause-promised g c =
+    let command = command_of (texts_of c.args.words.now) in
+    let e = c.answered_by_workers-reply.ensures in
+    let f = c.finished.ensures in
+    promised g.S.Source g.K.Sink g.E.Sink command (answer_of g.G.Services.Services.gives g.G.Services.Services.knows command)
+    c.args.source.now c.answered_by_workers-reply.new.source c.args.out.now c.finished.new.out c.args.err.now c.finished.new.err
+    c.finished.result c.answered_by_workers-reply.result e.answer e.usage e.taken e.unread f.finished f.silent f.unsaid
+
+pub returns-clause-asked : goal.returns-clause-asked
+returns-clause-asked g c = λ one.
+    let command = command_of (texts_of c.args.words.now) in
+    asked-of (asks_of g.G.Services.Services.gives g.G.Services.Services.knows command)
+    (source_told g.S.Source c.args.source.now c.answered_by_workers-reply.new.source) (g.A.Asker.calls c.args.asker.now)
+    (g.A.Asker.calls c.answered_by_workers-reply.new.asker) (sink_told g.K.Sink c.args.out.now c.finished.new.out)
+    (sink_told g.E.Sink c.args.err.now c.finished.new.err) c.answered_by_workers-reply.result c.finished.result c.finished.ensures.finished
+    (c.answered_by_workers-reply.ensures.asked one)
