@@ -2,3 +2,4 @@ pub mod Form
 pub mod TextLemmas
 pub mod Computed
 pub mod Accepting
+pub mod totals

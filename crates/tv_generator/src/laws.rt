@@ -1,5 +1,6 @@
 //! What holds of the definitions alone: each law is the clause of a function that does nothing.
 ghost use Rattle.tv_generator.specs.Accepted.{AreAccepted};
+ghost use Rattle.tv_generator.specs.Formulas.{HaveTheirTotals};
 ghost use Rattle.tv_generator.specs.Stated.{AreFormed, SummaryOfTen, TextsOfTwelve};
 
 /// Every generated document is of the form.
@@ -10,6 +11,11 @@ pub fn are_formed()
 /// The check finds nothing in a generated document, for services that know the four that it names.
 pub fn are_accepted()
     ensures { AreAccepted }
+{}
+
+/// Its run by services that give what the local ones give, for those four, has the totals of the formulas.
+pub fn have_their_totals()
+    ensures { HaveTheirTotals }
 {}
 
 /// The first texts of both lists.

@@ -1,4 +1,5 @@
--- What a board knows so far of its open instances is below what they are meant to have, and is all that is known after its history.
+-- What a board knows so far of its open instances is below what they are meant to have; of outputs and ports of steps it is all that is
+-- known after its history.
 -- The run r is the board's: that it stands so (`StandsStill`) by what the services give is what the type of boards keeps.
 use Rattle.std.specs.Option.{IsSomeAnd}
 use Rattle.std.specs.Prelude.{◌≡◌, ℕ, Bool, true, Some, slice_get}

@@ -16,8 +16,8 @@ pub fn known()
     ensures flow_outputs { KnownFlowOutputsAreBelow }
 {}
 
-/// And it is all that is known after the history: the trees show these nodes and no others. They are whole where all are known, and
-/// then they are the values.
+/// Of outputs and ports of steps it is all that is known after the history: the trees show these nodes and no others. They are whole
+/// where all are known, and then they are the values.
 pub fn exact()
     ensures outputs { KnownOutputsAreExact }
     ensures ports { KnownPortsAreExact }

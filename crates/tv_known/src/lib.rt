@@ -3,9 +3,9 @@
 //! A board (`tv_board`) is a run, which has a frame for each open instance (`tv_run`, `tv_frame`). What the frame knows so far of
 //! the outputs of steps, of what has come to their ports and of its flow's outputs are partial trees (`tv_parts`, `tv_frame_laws`).
 //! At every moment, whatever was accepted in which order, these are below the values that the document means in that instance by
-//! the services of the board's type. So what a job binds, and what could be shown of a run that goes on, stands. And they show
-//! exactly the nodes that are known after the board's history: those given from the start, those of settled jobs, and those of
-//! lists that were closed and faults that were passed.
+//! the services of the board's type. So what a job binds, and what could be shown of a run that goes on, stands. Those of outputs
+//! and ports of steps show exactly the nodes that are known after the board's history: those given from the start, those of settled
+//! jobs, and those of lists that were closed and faults that were passed.
 //!
 //! What a whole tree below a value is, is the value (`tv_parts`, `WholeIsValue`).
 //!

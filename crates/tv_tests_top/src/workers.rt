@@ -133,7 +133,11 @@ fn workers_ask_the_gate_alone(rt: HostRuntime) -> Result<(), Fail> {
         let mut asker = LoggedGate::new(rt.alloc(), &gate);
         let document = CHAIN.as_bytes();
         let ran = by(&rt, rt.alloc(), words, document, SOUND, &gate, &mut asker)?;
-        assert_eq!(rt; (ran.out.sent(), asker.calls().len()), (LINE, calls), "{words}");
+        assert_eq!(rt;
+            (ran.out.sent(), asker.calls().len()),
+            (LINE, calls),
+            "{words}"
+        );
     }
     Ok(())
 }
