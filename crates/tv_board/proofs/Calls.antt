@@ -2,8 +2,8 @@
 use Rattle.std.specs.Prelude.{◌≡◌, refl, ℕ, Bool, true, false, List, map, Result, Ok, Err, Option, Some, None, IfOk, OnErr, OnOk, MatchOption}
 use Rattle.std.proofs.Common.{ap, subst, ◌∙◌}
 use Rattle.tv_value.specs.Values.{Name}
-use Rattle.tv_value.specs.Views.{view}
-use Rattle.tv_value.specs.declared.value.Value.{Value as TheValue}
+use Rattle.tv_cell.specs.PieceValues.{piece_value}
+use Rattle.tv_cell.specs.declared.piece.Piece.{Piece}
 use Rattle.tv_gate.specs.Outcomes.{Giving}
 use Rattle.tv_flow.specs.Views.{each}
 use Rattle.tv_strategy.specs.Origins.{plain}
@@ -153,9 +153,9 @@ module _ (gives : Giving) (r s : OpenRun) (x : Run) (e : run_of r ≡ x) (st : S
 -- ---- outputs
 
 pub outputs-told : {E : Type 0} (gives : Giving) (r : OpenRun) (x : Run) → run_of r ≡ x → StandsStill gives r → is_done (past_of x) ≡ true
-    → (o : Result (List (Name × TheValue)) E)
-    → IfOk o (λ os. (g : Giving) → StandsStill g r → is_done (past_of (run_of r)) ≡ true → each view os ≡ map (λ p. (p.0, plain p.1)) (meant g (run_of r)).outputs)
-    → IfOk o (λ os. each view os ≡ map (λ p. (p.0, plain p.1)) (meant gives x).outputs)
+    → (o : Result (List (Name × Piece)) E)
+    → IfOk o (λ os. (g : Giving) → StandsStill g r → is_done (past_of (run_of r)) ≡ true → each piece_value os ≡ map (λ p. (p.0, plain p.1)) (meant g (run_of r)).outputs)
+    → IfOk o (λ os. each piece_value os ≡ map (λ p. (p.0, plain p.1)) (meant gives x).outputs)
 outputs-told gives r x e st done (Ok os) h =
     h gives st (ap (λ (y : Run). is_done (past_of y)) e ∙ done) ∙ ap (λ y. map (λ p. (p.0, plain p.1)) (meant gives y).outputs) e
 outputs-told gives r x e st done (Err m) h = tt

@@ -1,4 +1,6 @@
 mod Calls
+mod Judged
+mod Called
 mod Answers
 mod Asking
 mod TracedLemmas

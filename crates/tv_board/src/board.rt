@@ -1,8 +1,7 @@
 //! The type of boards, and its calls.
 ghost use Rattle.std.specs.Prelude.{◌≡◌, ◌≤◌, [], IfErr, IfOk, IsOk, MatchOption, OnErr, OnOk, Some, is_some, map, slice_get, true};
-ghost use Rattle.tv_value.specs.Views.{view};
+ghost use Rattle.tv_cell.specs.PieceValues.{piece_value};
 ghost use Rattle.tv_flow.specs.Views.{each};
-ghost use Rattle.tv_gate.specs.Views.{outcome_view};
 ghost use Rattle.tv_flow.specs.Formed.{is_formed};
 ghost use Rattle.tv_strategy.specs.Origins.{plain};
 ghost use Rattle.tv_check.specs.RunViews.{run_view};
@@ -12,12 +11,12 @@ ghost use Rattle.tv_traces.specs.Settled.{settled_records};
 ghost use Rattle.tv_model.specs.Totals as model;
 ghost use Rattle.tv_model.specs.TotalsViews.{totals_view};
 ghost use Rattle.tv_history.specs.Histories.{is_done, kept_results, node_room};
-ghost use Rattle.tv_history.specs.Answers.{question};
 ghost use Rattle.tv_history.specs.Calls.{IsNothingOffered, IsTask, IsTaskFault, hands_out, out_now, totals_so_far, try_if_out};
 ghost use Rattle.tv_history.specs.Declarations.{declared_for};
 ghost use Rattle.tv_history.specs.Idle.{AreIdle};
 ghost use Rattle.tv_board.specs.Asked.{AsksAndAccepts, AsksOnceAtMost};
-ghost use Rattle.tv_board.specs.Refusals.{IsRefused, answered, told_or_back};
+ghost use Rattle.tv_board.specs.Refusals.{IsRefused, answered, outcome_for};
+ghost use Rattle.tv_run.specs.Tasks.{AreSoundOutputs, asked};
 ghost use Rattle.tv_history.specs.Refusals.{IsAccepting};
 ghost use Rattle.tv_history.specs.Runs.{Appends, IsLegalRun, meant, past_of};
 ghost use Rattle.tv_history.specs.Moves.{IsMove};
@@ -31,11 +30,11 @@ use std::marker::{Model, PhantomData};
 use std::mem;
 use tv_check::CheckedRun;
 use tv_gate::{Asker, Services};
-use tv_history::{Accepted, Entry, Moved, Task, TaskFault, Tested, Ticket};
+use tv_history::{Accepted, Entry, Moved, TaskFault, Tested, Ticket};
 use tv_lineage::Records;
 use tv_model::Totals;
-use tv_run::OpenRun;
-use tv_value::{JobName, Name, NoMemory, Sequence, Value};
+use tv_run::{OpenRun, Outputs, Task};
+use tv_value::{JobName, NoMemory, Value};
 
 /// A run: a document with the history of what was done for it.
 #[derive(Drop)]
@@ -60,19 +59,6 @@ impl<V: Services> Model for Board<V> {
     ghost view = { λ b. run_of b.run };
 
     ghost invariant = { λ b. StandsStill V.gives b.run };
-}
-
-/// What became of a job, or for want of memory its answer, given back.
-fn told_or_back<V: Services>(
-    told: Result<Accepted, NoMemory>,
-    answer: Answer<V>,
-) -> Result<Accepted, Refused<V>>
-    ensures { result ≡ told_or_back told answer }
-{
-    match told {
-        Ok(accepted) => Ok(accepted),
-        Err(_) => Err(Refused::NoMemory { answer }),
-    }
 }
 
 impl<V: Services> Board<V> {
@@ -177,9 +163,10 @@ impl<V: Services> Board<V> {
         self.run.recall_all()
     }
 
-    /// What a ticket asks, where its try is out. Linear in the inputs.
+    /// What a ticket asks, where its try is out. Linear in the ports and the outputs, and in the pieces of lists that are bound; no
+    /// value is copied.
     pub fn task(&self, ticket: &Ticket) -> Result<Task, TaskFault>
-        ensures task { IfOk result (λ t. IsTask V.gives self.now (question t.ticket t.service
+        ensures task { IfOk result (λ t. IsTask V.gives self.now (asked t.ticket t.service
             t.inputs t.outputs) × (t.ticket ≡ ticket.now)) }
         ensures outputs { IfOk result (λ t. declared_for V.gives self.now t.ticket.job
             ≡ Some t.outputs) }
@@ -194,13 +181,13 @@ impl<V: Services> Board<V> {
         }
     }
 
-    /// Accepts an answer where its try is out and it is what the try asks: the outcome is judged, and the job goes on or is
-    /// settled.
+    /// Accepts an answer where its try is out and it is what the try asks, compared as values: the job goes on or is settled by the
+    /// judgment of its outcome. Linear in the inputs, which are compared; no value of the outcome is copied.
     pub fn accept(&mut self, answer: Answer<V>) -> Result<Accepted, Refused<V>>
         ensures accepted { IfOk result (λ a. IsAccepting V.gives self.old self.new (answered answer)
-            (outcome_view answer.outcome) a) }
+            (outcome_for V.gives (answered answer)) a) }
         ensures refused { IfErr result (λ r. IsRefused V.gives self.old (answered answer)
-            (outcome_view answer.outcome) r) }
+            answer.judged r) }
         ensures unchanged { OnErr result (self.new ≡ self.old) }
         ensures legal { IsLegalRun V.gives self.new }
     {
@@ -213,8 +200,27 @@ impl<V: Services> Board<V> {
             Tested::NotOut(state) => Err(Refused::NotOut { answer, state }),
             Tested::Other => Err(Refused::OtherInputs { answer }),
             Tested::Asked => {
-                let told = self.run.accept(answer.ticket, &answer.outcome);
-                told_or_back(told, answer)
+                let Answer {
+                    ticket,
+                    service,
+                    inputs,
+                    outputs,
+                    judged,
+                    services,
+                } = answer;
+                match self.run.accept(ticket, judged) {
+                    Ok(accepted) => Ok(accepted),
+                    Err(failed) => Err(Refused::NoMemory {
+                        answer: Answer {
+                            ticket,
+                            service,
+                            inputs,
+                            outputs,
+                            judged: failed.value,
+                            services,
+                        },
+                    }),
+                }
             }
         }
     }
@@ -248,12 +254,13 @@ impl<V: Services> Board<V> {
         self.run.accept_own(*ticket, outcome)
     }
 
-    /// The outputs of a run that is done: those that the document means by the services, in the order of the flow's outputs.
-    /// Linear in them.
-    pub fn outputs(&self) -> Result<Sequence<(Name, Value)>, NoMemory>
+    /// The outputs of a run that is done: those that the document means by the services, in the order of the flow's outputs, as
+    /// pieces. Linear in their names, and in the pieces of lists; no value is copied.
+    pub fn outputs(&self) -> Result<Outputs, NoMemory>
         requires { is_done (past_of self.now) ≡ true }
-        ensures { IfOk result (λ os. each view os
+        ensures values { IfOk result (λ os. each piece_value os
             ≡ map (λ o. (o.0, plain o.1)) (meant V.gives self.now).outputs) }
+        ensures sound { IfOk result AreSoundOutputs }
     {
         self.run.outputs()
     }

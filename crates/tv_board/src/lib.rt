@@ -9,8 +9,10 @@
 //!
 //! What a call costs:
 //!
-//! - `history`, `is_done` are constant, `name_of` linear in the name, `outputs` linear in them
-//! - `task` is linear in what is asked; `ask` and `ask_alone` cost the one call that they make
+//! - `history`, `is_done` are constant, `name_of` linear in the name, `outputs` in the names of outputs and the pieces of lists
+//! - `task` shares the cells of what is bound, and copies no value: it is linear in the ports, and in the pieces of lists
+//! - `ask` and `ask_alone` go on no board: they make the values of the inputs, make the one call, judge its outcome and put its
+//!   values into cells
 //! - `hand_out`, `settle_one` and `move_on` walk down to the first job that goes on, by the steps
 //!   before it, once each; `settle_one` and `move_on` look at all steps of each instance in which
 //!   something happened. All leave out the first steps of an instance that are passed, all jobs of which are out or settled: they are
@@ -18,8 +20,8 @@
 //!   comes back or opens its flow. Then the calls cost what they change; a job that is bounced
 //!   costs what it binds too, and an instance that is opened a look at each step of its flow, and
 //!   at its constants
-//! - `accept` compares the inputs, copies the outcome, and then costs what it changes: what its job
-//!   gives, and what becomes known with it
+//! - `accept` compares the inputs as values, moves the outcome's cells, and costs what it changes: what becomes known with what its
+//!   job gives
 //! - `ask_and_accept` costs the one call that it makes, what is asked and what changes: it compares
 //!   nothing and copies no outcome
 //! - `recall_all` is linear in the jobs that are known and in the steps, of the open instances; `totals` is linear in the history
@@ -43,4 +45,5 @@ pub use board::Board;
 pub use naming::Naming;
 pub use refused::Refused;
 pub use traced::Traced;
-pub use tv_history::{Accepted, Entry, JobState, Moved, Task, TaskFault, Ticket};
+pub use tv_history::{Accepted, Entry, JobState, Moved, TaskFault, Ticket};
+pub use tv_run::{Outputs, Task, output_values, values_of};

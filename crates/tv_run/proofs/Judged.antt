@@ -104,6 +104,13 @@ module _ (gives : Giving) (r : OpenRun) (xs : Instances) (st : Stands gives r xs
       ∙ ap (judged (map (λ p. p.1) q.outputs)) e
       ∙ judged-good (map (λ p. p.1) q.outputs) vs (ap (λ z. is_ok (judged (map (λ p. p.1) q.outputs) z)) (sym e) ∙ is))
 
+  -- what comes to values is right, and its job gives them
+  pub comes-right : (vs : List Value) → judged (map (λ p. p.1) q.outputs) oc ≡ Ok vs → refusals.is_right q oc ≡ true
+  comes-right vs e = ap is_ok e
+
+  pub comes-settles : (vs : List Value) → judged (map (λ p. p.1) q.outputs) oc ≡ Ok vs → SettlesWith gives r t true vs
+  comes-settles vs e = settles-right gives r xs st t k o (sym right-so ∙ ap is_ok e) vs (sym judged-so ∙ e)
+
   pub wrong-asked : refusals.is_right q oc ≡ false → came_right gives k ≡ false
   wrong-asked wrong = sym right-so ∙ wrong
 

@@ -1,17 +1,19 @@
 -- The values of pieces with their names, one more at a time.
-use Rattle.std.specs.List.{zip}
-use Rattle.std.specs.Prelude.{◌≡◌, ℕ, ◌+◌, ◌<◌, ◌≤◌, List, [], ◌∷◌, ◌++◌, get_or, length, map, take}
+use Rattle.std.specs.List.{list_all, zip}
+use Rattle.std.specs.Prelude.{◌≡◌, ℕ, ◌+◌, ◌<◌, ◌≤◌, ◌&&◌, true, List, [], ◌∷◌, ◌++◌, get_or, length, map, take}
 use Rattle.std.proofs.Common.{ap, ap₂, subst, sym, ◌∙◌}
 use Rattle.std.proofs.lemmas.List.{get_or-map, length-map, map-append, take_all, take_more}
+use Rattle.std.proofs.lemmas.List.Folds.{list_all-append}
 use Rattle.std.proofs.lemmas.Slice.Zip.{firsts-zip, get_or-zip}
 use Rattle.tv_value.specs.Values as spec
 use Rattle.tv_value.specs.Values.{Name}
-use Rattle.tv_value.specs.Views.{view}
-use Rattle.tv_value.specs.declared.value.Value.{Value}
 use Rattle.tv_flow.specs.Views.{each}
 use Rattle.tv_flow.specs.declared.document.Feed.{Feed}
 use Rattle.tv_cell.specs.PieceValues.{piece_value, piece_values}
+use Rattle.tv_cell.specs.Soundness.{AreSound, is_sound}
 use Rattle.tv_cell.specs.declared.piece.Piece.{Piece}
+use Rattle.tv_naming.proofs.Lists.{list_all-at}
+use Rattle.tv_run.specs.Tasks.{AreSoundOutputs}
 
 -- two lists beside each other
 module _ {A B K V : Type 0} (f : A → K) (g : B → V) (xs : List A) (ys : List B) (many : length ys ≡ length xs) where
@@ -45,13 +47,25 @@ module _ (names : List (Name × Feed)) (ps : List Piece) (many : length ps ≡ l
 
   pub named-next :
       (i : ℕ) (n : Name × Feed) (p : Piece) → i < length ps → n ≡ get_or names i n → p ≡ get_or ps i p
-      → (before after : List (Name × Value)) (m : Name) (w : Value) → m ≡ n.0 → view w ≡ piece_value p
-      → each view before ≡ take i named_values → after ≡ before ++ (m, w) ∷ [] → each view after ≡ take (i + 1) named_values
+      → (before after : List (Name × Piece)) (m : Name) (w : Piece) → m ≡ n.0 → w ≡ p
+      → each piece_value before ≡ take i named_values → after ≡ before ++ (m, w) ∷ []
+      → each piece_value after ≡ take (i + 1) named_values
   named-next i n p low h k before after m w own worth so e =
-      ap (each view) e
-      ∙ map-append (λ (x : Name × Value). (x.0, view x.1)) before ((m, w) ∷ [])
-      ∙ ap₂ (λ l x. l ++ x ∷ []) so (λ j. (own j, worth j))
+      ap (each piece_value) e
+      ∙ map-append (λ (x : Name × Piece). (x.0, piece_value x.1)) before ((m, w) ∷ [])
+      ∙ ap₂ (λ l x. l ++ x ∷ []) so (λ j. (own j, piece_value (worth j)))
       ∙ sym (both-next (λ (x : Name × Feed). x.0) piece_value names ps many i n p (subst (λ l. i < l) many low) h k)
+
+  -- one more that points at something throughout
+  pub sound-next :
+      AreSound ps → (i : ℕ) (p : Piece) → i < length ps → p ≡ get_or ps i p
+      → (before after : List (Name × Piece)) (m : Name) (w : Piece) → w ≡ p
+      → AreSoundOutputs before → after ≡ before ++ (m, w) ∷ [] → AreSoundOutputs after
+  sound-next all i p low there before after m w same so e =
+      let here : is_sound w ≡ true = ap is_sound (same ∙ there) ∙ list_all-at is_sound ps i p all low in
+      ap (list_all (λ (o : Name × Piece). is_sound o.1)) e
+      ∙ list_all-append (λ (o : Name × Piece). is_sound o.1) before ((m, w) ∷ [])
+      ∙ ap₂ (λ a b. a && (b && true)) so here
 
   pub named-all : (i : ℕ) → length ps ≤ i → take i named_values ≡ named_values
   named-all i past = both-all (λ (x : Name × Feed). x.0) piece_value names ps many i (subst (λ l. l ≤ i) many past)

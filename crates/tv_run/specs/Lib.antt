@@ -13,6 +13,8 @@ pub mod Slots
 pub mod Accepting
 pub mod Tracing
 pub mod Inner
+pub mod Judging
+pub mod Tasks
 pub use Rattle.tv_instances.specs.Standing as InstancesStanding
 pub use Rattle.tv_frame.specs.Tables
 pub use Rattle.tv_frame.specs.Kept

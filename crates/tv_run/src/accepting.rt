@@ -1,5 +1,5 @@
 //! Outcomes that are accepted.
-ghost use Rattle.std.specs.Prelude.{◌≡◌, ◌<◌, ◌↔◌, Some, IfOk, IsTrue, OnErr, OnOk, false, is_some, length, map, true, ◌+◌, List, [], slice_get, vec_capacity};
+ghost use Rattle.std.specs.Prelude.{◌≡◌, ◌<◌, ◌↔◌, Some, IfErr, IfOk, IsTrue, OnErr, OnOk, false, is_some, length, map, true, ◌+◌, List, [], slice_get, vec_capacity};
 ghost use Rattle.tv_value.specs.Activities.{service as a_service};
 ghost use Rattle.tv_value.specs.Orders.{same_name};
 ghost use Rattle.tv_gate.specs.Outcomes.{Giving, Outcome as TheOutcome};
@@ -11,6 +11,7 @@ ghost use Rattle.tv_run.specs.Accepting.{FailsThen, GoesOnWith, GoesToBut, HasAs
 ghost use Rattle.tv_history.specs.Answers.{Question, question};
 ghost use Rattle.tv_history.specs.Calls.{try_if_out};
 ghost use Rattle.tv_history.specs.Refusals.{IsTested, accepts, is_right, is_settled_job};
+ghost use Rattle.tv_run.specs.Judging.{ComesTo, is_sound_judged};
 ghost use Rattle.tv_run.specs.Standing.{Fits, StandsOpen, StandsStill, names_of, run_of};
 ghost use Rattle.tv_run.specs.Turns.{AcceptsTo, IsAsked, StaysAs};
 ghost use Rattle.tv_history.specs.declared.told.Accepted.TheVariants.{Again, Settled as SettledAs};
@@ -32,8 +33,8 @@ ghost use Rattle.tv_run.specs.declared.instances.Numbered.{Numbered as TheNumber
 
 use crate::instances::Numbered;
 use crate::run::OpenRun;
-use crate::{error_pieces, value_pieces};
-use std::alloc::Global;
+use crate::{Judgment, error_pieces, value_pieces};
+use std::alloc::AllocFailed;
 use tv_cell::Pieces;
 use tv_dispatch::{Next, Verdict, after, judge};
 use tv_flow::Activity;
@@ -63,16 +64,6 @@ fn is_service(activity: &Activity, service: &Name) -> bool
     match activity {
         Activity::Service(name) => *name == *service,
         Activity::Nested(_) => false,
-    }
-}
-
-/// An equal outcome of its own. Linear in its size.
-fn copy_of(alloc: Global, outcome: &Outcome) -> Result<Outcome, NoMemory>
-    ensures { IfOk result (λ o. outcome_view o ≡ outcome_view outcome.now) }
-{
-    match outcome {
-        Outcome::Good(values) => Ok(Outcome::Good(values.copy(alloc)?)),
-        Outcome::Bad(why) => Ok(Outcome::Bad(why.copy(alloc)?)),
     }
 }
 
@@ -144,18 +135,52 @@ impl OpenRun {
             .binds(plan, &self.pool, number, inputs.as_slice())
     }
 
-    /// Accepts an outcome of a try that is out, by the judgment of it. Copies the outcome.
-    pub fn accept(&mut self, ticket: Ticket, outcome: &Outcome) -> Result<Accepted, NoMemory>
-        requires { (gives : Giving) × (q : Question) × StandsOpen gives self.old
-            × IsAsked gives self.old ticket q (outcome_view outcome.now) }
-        ensures accepted { IfOk result (λ a. (gives : Giving) (q : Question)
-            → StandsOpen gives self.old → IsAsked gives self.old ticket q (outcome_view outcome.now)
-            → AcceptsTo gives self.old self.new q (outcome_view outcome.now) a) }
+    /// Accepts what an outcome of a try that is out comes to. Its pieces are moved and no value is looked at, but where the room for
+    /// what follows reads the lengths of lists; a reason is copied. For want of memory it is given back.
+    pub fn accept(
+        &mut self,
+        ticket: Ticket,
+        judged: Judgment,
+    ) -> Result<Accepted, AllocFailed<Judgment>>
+        requires asked { (gives : Giving) × (q : Question) × (o : TheOutcome)
+            × StandsOpen gives self.old × IsAsked gives self.old ticket q o × ComesTo q o judged }
+        requires sound { is_sound_judged judged ≡ true }
+        ensures accepted { IfOk result (λ a. (gives : Giving) (q : Question) (o : TheOutcome)
+            → StandsOpen gives self.old → IsAsked gives self.old ticket q o → ComesTo q o judged
+            → AcceptsTo gives self.old self.new q o a) }
+        ensures refused { OnErr result ((gives : Giving) → StandsOpen gives self.old
+            → StaysAs gives self.old self.new) }
+        ensures back { IfErr result (λ failed. failed.value ≡ judged) }
+    {
+        match judged {
+            Judgment::Right(pieces) => match self.settle_with(ticket, true, pieces) {
+                Ok(()) => Ok(Accepted::Settled { good: true }),
+                Err(failed) => Err(AllocFailed {
+                    value: Judgment::Right(failed.value),
+                }),
+            },
+            Judgment::Wrong(why) => match self.accept_reason(ticket, &why) {
+                Ok(accepted) => Ok(accepted),
+                Err(NoMemory) => Err(AllocFailed {
+                    value: Judgment::Wrong(why),
+                }),
+            },
+        }
+    }
+
+    /// Accepts an outcome that isn't right. Copies the reason.
+    fn accept_reason(&mut self, ticket: Ticket, why: &Text) -> Result<Accepted, NoMemory>
+        requires { (gives : Giving) × (q : Question) × (o : TheOutcome) × StandsOpen gives self.old
+            × IsAsked gives self.old ticket q o × IsWrongFor q o why.now }
+        ensures accepted { IfOk result (λ a. (gives : Giving) (q : Question) (o : TheOutcome)
+            → StandsOpen gives self.old → IsAsked gives self.old ticket q o
+            → IsWrongFor q o why.now
+            → AcceptsTo gives self.old self.new q o a) }
         ensures refused { OnErr result ((gives : Giving) → StandsOpen gives self.old
             → StaysAs gives self.old self.new) }
     {
-        let own = copy_of(self.alloc, outcome)?;
-        self.accept_own(ticket, own)
+        let own = why.copy(self.alloc)?;
+        self.accept_wrong(ticket, own)
     }
 
     /// Accepts an outcome of a try that is out, by the judgment of it. Its values are moved, not
@@ -353,9 +378,14 @@ impl OpenRun {
         error_pieces(self.alloc, name, why, none, &self.step_at(job).outputs)
     }
 
-    /// The job is settled with these.
+    /// The job is settled with these. For want of memory they are given back.
     #[inline(always)]
-    fn settle_with(&mut self, ticket: Ticket, right: bool, pieces: Pieces) -> Result<(), NoMemory>
+    fn settle_with(
+        &mut self,
+        ticket: Ticket,
+        right: bool,
+        pieces: Pieces,
+    ) -> Result<(), AllocFailed<Pieces>>
         requires settles { (gives : Giving) × StandsOpen gives self.old
             × SettlesWith gives self.old ticket right (piece_values pieces) }
         requires sound { AreSound pieces }
@@ -367,11 +397,16 @@ impl OpenRun {
             → is_settled_job gives (run_of self.new) ticket.job ≡ true) }
         ensures refused { OnErr result ((gives : Giving) → StandsOpen gives self.old
             → StaysAs gives self.old self.new) }
+        ensures back { IfErr result (λ failed. failed.value ≡ pieces) }
     {
         let Numbered { instance, number } = self.known(ticket.job);
-        let spot = self.room_for_result(instance, number, &pieces)?;
-        self.give(instance, number, spot, pieces);
-        self.note(entry_of(ticket, right));
-        Ok(())
+        match self.room_for_result(instance, number, &pieces) {
+            Ok(spot) => {
+                self.give(instance, number, spot, pieces);
+                self.note(entry_of(ticket, right));
+                Ok(())
+            }
+            Err(NoMemory) => Err(AllocFailed { value: pieces }),
+        }
     }
 }

@@ -13,13 +13,14 @@
 //! - `instances`: an instance that was opened, and a job by its number there
 //! - `slots`: where open instances stand, and stood that have ended
 //! - `run`: what a run has, how it starts, and the room that a call takes
-//! - `jobs`, `tasks`: where a job stands, what it is called, and what its try asks
+//! - `jobs`, `tasks`, `task`: where a job stands, what it is called, and what its try asks
 //! - `walk`: the walk to the first job of all that goes on
 //! - `handing`: handing out, and taking back
 //! - `results`: a job given its result, and what follows
 //! - `settling`: a job bounced, a list closed or a fault passed
 //! - `nesting`: an instance opened or ended; where no flow is next, a try handed out
 //! - `accepting`: an outcome accepted
+//! - `judging`: an outcome judged, and its values put into cells, with no run at hand
 //! - `ended`: what is left of the main instance once it has ended
 //! - `outputs`: what a run gives once it is done, and its totals so far
 //! - `tracing`: what was made of what in a run that is done, and by the settled jobs of one that goes on
@@ -40,6 +41,7 @@ mod errors;
 mod handing;
 mod instances;
 mod jobs;
+mod judging;
 mod nesting;
 mod outputs;
 mod over;
@@ -48,11 +50,15 @@ mod results;
 mod run;
 mod settling;
 mod slots;
+mod task;
 mod tasks;
 mod tracing;
 mod values;
 mod walk;
 
 pub use errors::{bounced_pieces, error_pieces};
+pub use judging::{Judgment, judged_in_cells};
+pub use outputs::{Outputs, output_values};
 pub use run::OpenRun;
+pub use task::Task;
 pub use values::{value_piece, value_pieces, values_of};

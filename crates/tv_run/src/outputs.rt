@@ -6,7 +6,7 @@ ghost use Rattle.tv_value.specs.Views.{view};
 ghost use Rattle.tv_flow.specs.Views.{each};
 ghost use Rattle.tv_gate.specs.Outcomes.{Giving};
 ghost use Rattle.tv_strategy.specs.Origins.{plain};
-ghost use Rattle.tv_cell.specs.PieceValues.{piece_values};
+ghost use Rattle.tv_cell.specs.PieceValues.{piece_value, piece_values};
 ghost use Rattle.tv_cell.specs.Soundness.{AreSound};
 ghost use Rattle.tv_model.specs.TotalsViews.{totals_view};
 ghost use Rattle.tv_pool.specs.Pool.{live_count};
@@ -15,6 +15,7 @@ ghost use Rattle.tv_history.specs.Calls.{totals_so_far};
 ghost use Rattle.tv_history.specs.Counted.{is_acceptance, is_bounce};
 ghost use Rattle.tv_history.specs.Runs.{meant, past_of};
 ghost use Rattle.tv_run.specs.Standing.{StandsStill, run_of};
+ghost use Rattle.tv_run.specs.Tasks.{AreSoundOutputs};
 ghost use Rattle.tv_instances.specs.stands.Seats.{is_over};
 
 use crate::run::OpenRun;
@@ -26,21 +27,42 @@ use tv_model::Totals;
 use tv_seats::Stage;
 use tv_value::{Copied, Name, NoMemory, Sequence, Value};
 
-/// The values of pieces, with the names of a flow's outputs.
-fn named_values(
+/// A name and a piece for each output of a flow.
+pub type Outputs = Sequence<(Name, Piece)>;
+
+/// Copies of pieces, with the names of a flow's outputs.
+fn named_pieces(
     alloc: Global,
     names: &[(Name, Feed)],
     pieces: &[Piece],
-) -> Result<Sequence<(Name, Value)>, NoMemory>
+) -> Result<Outputs, NoMemory>
     requires sound { AreSound pieces.now }
     requires many { length pieces.now ≡ length names.now }
-    ensures { IfOk result (λ os. each view os
+    ensures values { IfOk result (λ os. each piece_value os
         ≡ zip (map (λ n. n.0) names.now) (piece_values pieces.now)) }
+    ensures sound { IfOk result AreSoundOutputs }
 {
-    let mut values = Vec::with_capacity(alloc, pieces.len())?;
+    let mut named = Vec::with_capacity(alloc, pieces.len())?;
     for (index, piece) in pieces.iter().enumerate() {
         let name = names[index].0.copy(alloc)?;
-        let value = assemble(alloc, piece)?;
+        let copy = piece.copy(alloc)?;
+        named.push((name, copy))?;
+    }
+    Ok(Sequence::of(named))
+}
+
+/// The values that the pieces of outputs stand for, by the same names. Linear in them.
+pub fn output_values(
+    alloc: Global,
+    outputs: &[(Name, Piece)],
+) -> Result<Sequence<(Name, Value)>, NoMemory>
+    requires { AreSoundOutputs outputs.now }
+    ensures { IfOk result (λ vs. each view vs ≡ each piece_value outputs.now) }
+{
+    let mut values = Vec::with_capacity(alloc, outputs.len())?;
+    for output in outputs {
+        let name = output.0.copy(alloc)?;
+        let value = assemble(alloc, &output.1)?;
         values.push((name, value))?;
     }
     Ok(Sequence::of(values))
@@ -89,17 +111,19 @@ pub(crate) fn is_settled(stage: Option<Stage>) -> bool
 }
 
 impl OpenRun {
-    /// The outputs of a run that is done.
-    pub fn outputs(&self) -> Result<Sequence<(Name, Value)>, NoMemory>
+    /// The outputs of a run that is done. Linear in their names, and in the pieces of lists; no value is copied.
+    pub fn outputs(&self) -> Result<Outputs, NoMemory>
         requires { (gives : Giving) × StandsStill gives self.now
             × (is_done (past_of (run_of self.now)) ≡ true) }
-        ensures { IfOk result (λ os. (gives : Giving) → StandsStill gives self.now
+        ensures values { IfOk result (λ os. (gives : Giving) → StandsStill gives self.now
             → is_done (past_of (run_of self.now)) ≡ true
-            → each view os ≡ map (λ o. (o.0, plain o.1)) (meant gives (run_of self.now)).outputs) }
+            → each piece_value os
+            ≡ map (λ o. (o.0, plain o.1)) (meant gives (run_of self.now)).outputs) }
+        ensures sound { IfOk result AreSoundOutputs }
     {
         let plan = self.run.flow(self.run.main());
         match &self.outs {
-            Some(ended) => named_values(
+            Some(ended) => named_pieces(
                 self.alloc,
                 plan.flow.outputs.as_slice(),
                 ended.outs.as_slice(),

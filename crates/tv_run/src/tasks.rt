@@ -5,7 +5,6 @@ ghost use Rattle.tv_value.specs.Views.{values_view};
 ghost use Rattle.tv_dispatch.specs.Jobs.{Ask};
 ghost use Rattle.tv_gate.specs.Outcomes.{Giving};
 ghost use Rattle.tv_flow.specs.Views.{activity_view};
-ghost use Rattle.tv_history.specs.Answers.{question};
 ghost use Rattle.tv_history.specs.Calls.{IsTask, try_if_out};
 ghost use Rattle.tv_history.specs.Declarations.{declared_for};
 ghost use Rattle.tv_cell.specs.PieceValues.{piece_values};
@@ -18,12 +17,14 @@ ghost use Rattle.tv_instances.specs.Forest.{Instance as AnInstance, Instances, I
 ghost use Rattle.tv_run.specs.Jobs.{IsOfOpen, is_service};
 ghost use Rattle.tv_run.specs.declared.instances.Numbered.{Numbered as TheNumbered};
 ghost use Rattle.tv_run.specs.Standing.{Fits, StandsStill, run_of};
+ghost use Rattle.tv_run.specs.Tasks.{asked};
 
+use crate::Task;
 use crate::instances::Numbered;
 use crate::run::OpenRun;
 use tv_cell::Pieces;
 use tv_flow::Activity;
-use tv_history::{Task, Ticket};
+use tv_history::Ticket;
 use tv_value::{Copied, Items, Name, NoMemory, Value};
 
 /// The name of the service of an activity that is one.
@@ -38,18 +39,19 @@ fn service_of(activity: &Activity) -> &Name
 }
 
 impl OpenRun {
-    /// The task of a ticket whose try is out. Linear in the inputs and outputs.
+    /// The task of a ticket whose try is out. Linear in the ports and the outputs, and in the pieces of lists that are bound; no value
+    /// is copied.
     pub fn task_of(&self, ticket: Ticket) -> Result<Task, NoMemory>
         requires { (gives : Giving) × StandsStill gives self.now
             × (is_some (try_if_out gives (run_of self.now) ticket) ≡ true) }
         ensures ticket { IfOk result (λ t. t.ticket ≡ ticket) }
         ensures task { IfOk result (λ t. (gives : Giving) → StandsStill gives self.now
             → is_some (try_if_out gives (run_of self.now) ticket) ≡ true
-            → IsTask gives (run_of self.now) (question t.ticket t.service t.inputs t.outputs)
+            → IsTask gives (run_of self.now) (asked t.ticket t.service t.inputs t.outputs)
             × (declared_for gives (run_of self.now) ticket.job ≡ Some t.outputs)) }
     {
         let service = self.asked_service(ticket).copy(self.alloc)?;
-        let inputs = self.asked_inputs(ticket, Vec::new(self.alloc))?;
+        let inputs = self.inputs_of(ticket.job)?;
         let outputs = self.step_at(ticket.job).outputs.copy(self.alloc)?;
         Ok(Task {
             ticket,

@@ -25,7 +25,9 @@ use serde_json::Value as Json;
 use std::alloc::{AllocError, Global};
 use std::fmt::Write;
 use std::test::Fail;
-use tv_board::{Accepted, Answer, Board, Moved, Refused, Task, Ticket, ask, ask_alone};
+use tv_board::{
+    Accepted, Answer, Board, Moved, Refused, Task, Ticket, ask, ask_alone, output_values,
+};
 use tv_check::{CheckedRun, check};
 use tv_flow::read_document;
 use tv_gate::GateAsker;
@@ -188,7 +190,7 @@ impl Play {
         let _recalled = self.board.recall_all()?;
         let gate = LocalGate::new();
         run_alone(self.alloc, &mut self.board, &mut GateAsker::new(&gate))?;
-        let outputs = self.board.outputs()?;
+        let outputs = output_values(self.alloc, self.board.outputs()?.as_slice())?;
         self.line = result_line(self.alloc, &outputs, &self.board.totals())?;
         Ok(())
     }

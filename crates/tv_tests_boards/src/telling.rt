@@ -1,7 +1,7 @@
 //! How entries, tasks and states are said.
 use std::alloc::{AllocError, Global};
 use std::fmt::Write;
-use tv_board::{Entry, JobState, Task, TaskFault, Ticket};
+use tv_board::{Entry, JobState, Task, TaskFault, Ticket, values_of};
 use tv_json::{compact, element_text, job_text, json_of_value};
 use tv_lineage::{Mark, Records};
 use tv_value::{Copied, JobName, NoMemory, Sequence, Text, Value};
@@ -38,7 +38,8 @@ fn push_question(alloc: Global, said: &mut String, task: Task) -> Result<(), NoM
     for (name, depth) in task.outputs.as_slice() {
         write!(said, " {}:{depth}", name.as_str())?;
     }
-    let json = json_of_value(alloc, &Value::List(task.inputs))?;
+    let inputs = values_of(alloc, task.inputs.as_slice())?;
+    let json = json_of_value(alloc, &Value::List(inputs))?;
     said.push_str(compact(alloc, &json)?.as_str())?;
     Ok(said.push_str(" ")?)
 }

@@ -1,11 +1,10 @@
 //! What workers share: a board under a lock, and what each of them does to it there.
 ghost use Rattle.std.specs.Prelude.{◌≡◌, ◌+◌, ◌||◌, IfErr, IfOk, OnErr, false, sum, true, vec_len};
-ghost use Rattle.tv_gate.specs.Views.{outcome_view};
-ghost use Rattle.tv_board.specs.Refusals.{answered};
+ghost use Rattle.tv_board.specs.Refusals.{answered, outcome_for};
 ghost use Rattle.tv_history.specs.Calls.{IsTask, IsTaskFault};
-ghost use Rattle.tv_history.specs.Answers.{question};
 ghost use Rattle.tv_history.specs.Histories.{is_done};
 ghost use Rattle.tv_history.specs.Runs.{IsLegalRun, past_of};
+ghost use Rattle.tv_board.specs.Tasks.{asked};
 ghost use Rattle.tv_work.specs.Locking.{IsSince, IsTaken, IsTurned, OnlySettles, acceptances};
 ghost use Rattle.tv_work.specs.Working.{GoesOn};
 
@@ -125,7 +124,7 @@ impl<V: Services, N: Naming> Locked<V, N> {
     /// answer is gone. The cost is that of the board's `accept`.
     pub fn take(&mut self, answer: Answer<V>, share: &mut Share<N>) -> Result<bool, NoMemory>
         ensures taken { IfOk result (λ b. IsTaken V.gives self.old self.new share.old share.new
-            (answered answer) (outcome_view answer.outcome) b) }
+            (answered answer) (outcome_for V.gives (answered answer)) b) }
         ensures refused { OnErr result (self.new ≡ self.old) }
         ensures uncounted { OnErr result (share.new ≡ share.old) }
     {
@@ -143,9 +142,9 @@ impl<V: Services, N: Naming> Locked<V, N> {
         }
     }
 
-    /// What a ticket asks, where its try is out. Linear in the inputs.
+    /// What a ticket asks, where its try is out. The cost is that of the board's `task`.
     pub fn task(&self, ticket: &Ticket) -> Result<Task, TaskFault>
-        ensures task { IfOk result (λ t. IsTask V.gives self.now.board (question t.ticket t.service
+        ensures task { IfOk result (λ t. IsTask V.gives self.now.board (asked t.ticket t.service
             t.inputs t.outputs) × (t.ticket ≡ ticket.now)) }
         ensures fault { IfErr result (λ f. IsTaskFault V.gives self.now.board ticket.now f) }
     {

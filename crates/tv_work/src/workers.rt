@@ -14,33 +14,36 @@ use std::sync::ledger::Blank;
 use std::sync::{Condvar, Mutex, MutexGuard, Wait, ledger};
 use std::thread;
 use std::thread::Threads;
-use tv_board::{Board, Naming, Task, Ticket, ask};
+use tv_board::{Board, Naming, Task, Ticket, ask, output_values};
 use tv_check::CheckedRun;
 use tv_gate::{Gate, GateAsker, Services};
 use tv_model::Totals;
 use tv_value::{Name, NoMemory, Sequence, Value};
 
-/// How often a worker looks whether the lock is free before it sleeps, and how often it lets others go on after the first look and
-/// after the late ones: for some hundred microseconds in all.
+/// How often a worker looks whether the lock is free before it sleeps.
 const LOOKS: u32 = 24;
 
+/// How often it lets others go on after the first look; twice as often after each further one, up to `MOST`.
 const LEAST: u32 = 8;
 
+/// How often it lets others go on after a look at most: some hundred microseconds in all looks where no other thread is to run.
 const MOST: u32 = 64;
 
 /// Works off a board on which nothing is out by so many workers, each in a thread of its own, and what they leave by one alone.
-/// After success the run is done. It may not return: each worker ends once the run is done or one of them found no memory, but no
-/// clause says that one who waits is woken. The gate is asked by all at once, in no order and with nothing held: once for each
-/// outcome that is accepted, and where a worker found no memory again for what was out.
+/// After success the run is done. It may not return: each worker ends once the run is done, one of them found no memory or an answer
+/// wasn't accepted, but no clause says that one who waits is woken. The gate is asked by all at once, in no order and with nothing
+/// held: once for each outcome that is accepted, and where a worker found no memory again for what was out.
 ///
 /// Where a thread can't be made its worker goes in the thread of another, after that one: where none can be, one worker does all.
-/// `Err` comes where one worker alone finds no memory, or where there is none for the list of the workers; the board is gone then.
+/// `Err` comes where there is no memory for the list of the workers or of their shares, for taking back what was out when they ended,
+/// or for one worker alone who finishes; the board is gone then.
 ///
 /// A thread has the stack that the C library gives by default: what `ulimit -s` says when the program starts, and 2 MiB where that
 /// is unlimited.
 ///
-/// The cost is that of `run_alone`, and of each answer twice its inputs, which are copied for the task and compared with what is
-/// asked. Of all that, the calls of the gate alone are made at the same time: the rest is done with the lock held.
+/// The cost is that of `run_alone`; where several jobs have flows open, each turn also looks at the open instances in order of their
+/// jobs. Inputs are assembled, the gate is called and outcomes are put into cells with the lock free, so at the same time; the calls of
+/// the board, which copy and compare pieces, are made with the lock held, one after another.
 pub fn run_with_workers<R: Threads + Wait + Sync, V: Services, G: Gate<Services = V>>(
     rt: &R,
     alloc: Global,
@@ -77,7 +80,8 @@ pub fn run_whole_with_workers<R: Threads + Wait + Sync, V: Services, G: Gate<Ser
 {
     let begun = Board::start(alloc, run)?;
     let board = run_with_workers(rt, alloc, begun, gate, workers)?;
-    let outputs = board.outputs()?;
+    let pieces = board.outputs()?;
+    let outputs = output_values(alloc, pieces.as_slice())?;
     let totals = board.totals();
     Ok((outputs, totals))
 }
@@ -95,7 +99,7 @@ struct Shared<V: Services, N: Naming> {
     locked: Locked<V, N>,
     /// A try that was handed out for whoever comes first.
     next: Option<Ticket>,
-    /// How many workers wait, or more where one that was not called woke by itself.
+    /// How many workers wait and were not called, or more where one that was not called woke by itself.
     waiting: u32,
 }
 
@@ -237,7 +241,8 @@ impl<V: Services, N: Naming> Shared<V, N> {
         }
     }
 
-    /// Whether one who waits is to be called, since something is to be done. Where nobody waits nothing is looked for.
+    /// Whether one who waits is to be called, since something is to be done: then that one counts as called. Where nobody waits nothing
+    /// is looked for; else, where nothing stands ready for whoever comes first, the next try is handed out for them.
     fn has_more(&mut self) -> bool {
         if self.waiting == 0 {
             return false;

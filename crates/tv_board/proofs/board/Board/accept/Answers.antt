@@ -1,26 +1,20 @@
-use Rattle.std.proofs.Common.{ap, subst, sym, ◌∙◌}
-use Rattle.std.specs.Prelude.{IfErr, IfOk, OnErr, refl, ◌≡◌}
-use Rattle.tv_gate.specs.Views.{outcome_view}
+use Rattle.std.proofs.Common.{ap, inl, inr, subst, sym, ◌∙◌}
+use Rattle.std.specs.Prelude.{refl}
 use Rattle.tv_history.specs.Calls.{IsOther, state_of, try_if_out}
-use Rattle.tv_history.specs.Refusals.{IsAccepting}
 use Rattle.tv_run.specs.Standing.{run_of}
-use Rattle.tv_run.specs.Turns.{IsAsked}
-use Rattle.tv_board.specs.Refusals.{IsRefused, answered}
-use Rattle.tv_board.proofs.Answers.{accept-back, accept-stands, accept-stays, accept-tells, asked-of, stands-open}
+use Rattle.tv_board.specs.Refusals.{answered, outcome_for}
+use Rattle.tv_board.proofs.Answers.{Alike, asked-of, comes-of, open-of, take-stands, take-stays, take-tells}
 use Rattle.tv_board.proofs.Calls.{legal-now}
 use Rattle.tv_board.proofs.board.Board.accept.Goals as goal
+use Rattle.tv_board.proofs.board.Board.accept.Goals.{in-Ok+in-Long-1, in-Ok+in-Short-1, in-Err}
 
-pub accept-told-requires : goal.accept-told-requires
-accept-told-requires g c =
-    let asked : IsAsked g.V.Services.gives c.self.inside.run c.args.answer.ticket (answered c.args.answer) (outcome_view c.args.answer.outcome) =
-    asked-of c.self.inside.run c.args.answer (c.in-Asked.ensures g.V.Services.gives c.self.invariant) in
-    (g.V.Services.gives, answered c.args.answer, stands-open g.V.Services.gives c.self.inside.run c.self.inside.run c.args.self.now c.self.view_is c.self.invariant c.args.answer.ticket (answered c.args.answer) (outcome_view c.args.answer.outcome) asked, asked)
-
-pub invariant_of-self : goal.invariant_of-self
-invariant_of-self g c =
-    let asked : IsAsked g.V.Services.gives c.self.inside.run c.args.answer.ticket (answered c.args.answer) (outcome_view c.args.answer.outcome) =
-    asked-of c.self.inside.run c.args.answer (c.in-Asked.ensures g.V.Services.gives c.self.invariant) in
-    accept-stands g.V.Services.gives c.self.inside.run c.accept-told.new.self c.args.self.now c.self.view_is c.self.invariant c.args.answer.ticket (answered c.args.answer) (outcome_view c.args.answer.outcome) asked c.accept-told.result c.accept-told.ensures.accepted c.accept-told.ensures.refused
+pub accept-requires-clause-asked : goal.accept-requires-clause-asked
+accept-requires-clause-asked g c =
+    let gives = g.V.Services.gives in
+    let r = c.self.inside.run in
+    let y = c.args.answer in
+    let task = c.in-Asked.ensures gives c.self.invariant in
+    (gives, answered y, outcome_for gives (answered y), open-of y r task c.self.invariant, asked-of y r task, comes-of y)
 
 pub returns-in-NotOut-clause-refused : goal.returns-in-NotOut-clause-refused
 returns-in-NotOut-clause-refused g c =
@@ -37,26 +31,45 @@ returns-in-Other-clause-refused g c =
 pub returns-in-Other-clause-legal : goal.returns-in-Other-clause-legal
 returns-in-Other-clause-legal g c = legal-now g.V.Services.gives c.self.inside.run c.args.self.now c.self.view_is c.self.invariant
 
-pub returns-in-Asked-clause-accepted : goal.returns-in-Asked-clause-accepted
-returns-in-Asked-clause-accepted g c =
-    let asked : IsAsked g.V.Services.gives c.self.inside.run c.args.answer.ticket (answered c.args.answer) (outcome_view c.args.answer.outcome) =
-    asked-of c.self.inside.run c.args.answer (c.in-Asked.ensures g.V.Services.gives c.self.invariant) in
-    subst (λ d. IfOk d (λ a. IsAccepting g.V.Services.gives c.args.self.now (run_of c.accept-told.new.self) (answered c.args.answer) (outcome_view c.args.answer.outcome) a)) (sym c.told_or_back.ensures)
-    (accept-tells g.V.Services.gives c.self.inside.run c.accept-told.new.self c.args.self.now c.self.view_is c.self.invariant c.args.answer.ticket (answered c.args.answer) (outcome_view c.args.answer.outcome) asked c.args.answer c.accept-told.result c.accept-told.ensures.accepted)
+pub invariant_of-self : goal.invariant_of-self
+invariant_of-self g c =
+    let gives = g.V.Services.gives in
+    let r = c.self.inside.run in
+    let y = c.args.answer in
+    let task = c.in-Asked.ensures gives c.self.invariant in
+    take-stands gives r c.accept.new.self c.args.self.now c.self.view_is (open-of y r task c.self.invariant) y.ticket (answered y)
+    (outcome_for gives (answered y)) (asked-of y r task) y.judged (comes-of y) c.accept.result c.accept.ensures.accepted c.accept.ensures.refused
 
-pub returns-in-Asked-clause-refused : goal.returns-in-Asked-clause-refused
-returns-in-Asked-clause-refused g c =
-    let asked : IsAsked g.V.Services.gives c.self.inside.run c.args.answer.ticket (answered c.args.answer) (outcome_view c.args.answer.outcome) =
-    asked-of c.self.inside.run c.args.answer (c.in-Asked.ensures g.V.Services.gives c.self.invariant) in
-    subst (λ d. IfErr d (λ f. IsRefused g.V.Services.gives c.args.self.now (answered c.args.answer) (outcome_view c.args.answer.outcome) f)) (sym c.told_or_back.ensures)
-    (accept-back g.V.Services.gives c.self.inside.run c.accept-told.new.self c.args.self.now c.self.view_is c.self.invariant c.args.answer.ticket (answered c.args.answer) (outcome_view c.args.answer.outcome) asked c.args.answer c.accept-told.result refl refl)
+pub returns-after-accept-clause-accepted : goal.returns-after-accept-clause-accepted
+returns-after-accept-clause-accepted g c =
+    let gives = g.V.Services.gives in
+    let r = c.self.inside.run in
+    let y = c.args.answer in
+    let task = c.in-Asked.ensures gives c.self.invariant in
+    let same : Alike c.accept.result c.match-accept.result =
+    elim c.match-accept.branch [
+      | in-Ok+in-Long-1 w ↦ inl (w.in-Ok.accepted, w.in-Ok.is, w.result-is)
+      | in-Ok+in-Short-1 w ↦ inl (w.in-Ok.accepted, w.in-Ok.is, w.result-is)
+      | in-Err w ↦ inr (w.in-Err.failed, _, w.in-Err.is, w.result-is)
+    ] in
+    take-tells gives r c.accept.new.self c.args.self.now c.self.view_is (open-of y r task c.self.invariant) y.ticket (answered y)
+    (outcome_for gives (answered y)) (asked-of y r task) y.judged (comes-of y) c.accept.result c.match-accept.result same c.accept.ensures.accepted
 
-pub returns-in-Asked-clause-unchanged : goal.returns-in-Asked-clause-unchanged
-returns-in-Asked-clause-unchanged g c =
-    let asked : IsAsked g.V.Services.gives c.self.inside.run c.args.answer.ticket (answered c.args.answer) (outcome_view c.args.answer.outcome) =
-    asked-of c.self.inside.run c.args.answer (c.in-Asked.ensures g.V.Services.gives c.self.invariant) in
-    subst (λ d. OnErr d (run_of c.accept-told.new.self ≡ c.args.self.now)) (sym c.told_or_back.ensures)
-    (accept-stays g.V.Services.gives c.self.inside.run c.accept-told.new.self c.args.self.now c.self.view_is c.self.invariant c.args.answer.ticket (answered c.args.answer) (outcome_view c.args.answer.outcome) asked c.args.answer c.accept-told.result c.accept-told.ensures.refused)
+pub returns-after-accept-clause-unchanged : goal.returns-after-accept-clause-unchanged
+returns-after-accept-clause-unchanged g c =
+    let gives = g.V.Services.gives in
+    let r = c.self.inside.run in
+    let y = c.args.answer in
+    let task = c.in-Asked.ensures gives c.self.invariant in
+    let same : Alike c.accept.result c.match-accept.result =
+    elim c.match-accept.branch [
+      | in-Ok+in-Long-1 w ↦ inl (w.in-Ok.accepted, w.in-Ok.is, w.result-is)
+      | in-Ok+in-Short-1 w ↦ inl (w.in-Ok.accepted, w.in-Ok.is, w.result-is)
+      | in-Err w ↦ inr (w.in-Err.failed, _, w.in-Err.is, w.result-is)
+    ] in
+    take-stays gives r c.accept.new.self c.args.self.now c.self.view_is (open-of y r task c.self.invariant) y.ticket (answered y)
+    (outcome_for gives (answered y)) (asked-of y r task) y.judged (comes-of y) c.accept.result c.match-accept.result same c.accept.ensures.refused
 
-pub returns-in-Asked-clause-legal : goal.returns-in-Asked-clause-legal
-returns-in-Asked-clause-legal g c = legal-now g.V.Services.gives c.accept-told.new.self (run_of c.accept-told.new.self) refl (invariant_of-self g c)
+pub returns-after-accept-clause-legal : goal.returns-after-accept-clause-legal
+returns-after-accept-clause-legal g c =
+    legal-now g.V.Services.gives c.accept.new.self (run_of c.accept.new.self) refl (invariant_of-self g c)

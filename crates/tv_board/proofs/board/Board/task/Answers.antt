@@ -1,9 +1,9 @@
 use Rattle.std.proofs.Common.{ap, subst, sym, ◌∙◌}
 use Rattle.std.specs.Prelude.{is_some}
-use Rattle.tv_history.specs.Answers.{question}
 use Rattle.tv_history.specs.Calls.{IsTask, state_of, try_if_out}
 use Rattle.tv_history.specs.Declarations.{declared_for}
 use Rattle.tv_history.specs.declared.ticket.Ticket.{Ticket}
+use Rattle.tv_run.specs.Tasks.{asked}
 use Rattle.tv_board.proofs.Answers.{none-is}
 use Rattle.tv_board.proofs.board.Board.task.Goals as goal
 
@@ -24,7 +24,7 @@ task_of-requires g c = (
 
 pub returns-in-Ok-clause-task : goal.returns-in-Ok-clause-task
 returns-in-Ok-clause-task g c = (
-  subst (λ r. IsTask g.V.Services.gives r (question c.in-Ok.task.ticket c.in-Ok.task.service c.in-Ok.task.inputs c.in-Ok.task.outputs)) c.self.view_is
+  subst (λ r. IsTask g.V.Services.gives r (asked c.in-Ok.task.ticket c.in-Ok.task.service c.in-Ok.task.inputs c.in-Ok.task.outputs)) c.self.view_is
       (c.in-Ok.ensures.task g.V.Services.gives c.self.invariant (sym (c.is_out.ensures.out g.V.Services.gives c.self.invariant) ∙ c.if-not-is_out.false)).0,
   c.in-Ok.ensures.ticket,
 )

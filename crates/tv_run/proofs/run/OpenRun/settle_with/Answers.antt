@@ -4,7 +4,6 @@ use Rattle.tv_cell.specs.PieceValues.{piece_values}
 use Rattle.tv_model.specs.instance.Events.{gave}
 use Rattle.tv_seats.specs.Seats.{with_stage}
 use Rattle.tv_seats.specs.declared.stage.Stage.TheVariants as stage
-use Rattle.tv_stream.proofs.Bases.{on-err}
 use Rattle.tv_run.specs.Changes.{TellsIn}
 use Rattle.tv_run.specs.Rooms.{HasRoomIn, IsNoted}
 use Rattle.tv_run.specs.declared.instances.Numbered.{Numbered}
@@ -32,9 +31,8 @@ room_for_result-requires-clause-may c =
       may-give p.0 r xs st c.args.ticket c.args.right vs a,
     )
 
-pub returns-in_err-spot-clause-refused : goal.returns-in_err-spot-clause-refused
-returns-in_err-spot-clause-refused c =
-    on-err c.from_residual.result _
+pub returns-in-Err-clause-refused : goal.returns-in-Err-clause-refused
+returns-in-Err-clause-refused c =
     (λ gives so. stays-before gives c.args.self.now c.room_for_result.new.self c.room_for_result.ensures.same so)
 
 pub give-requires-clause-may : goal.give-requires-clause-may
@@ -50,7 +48,7 @@ give-requires-clause-may c =
     let a = settles-asked p.0 r t c.args.right vs p.2 in
     let o = a.asked in
     let ready =
-    c.in_ok-spot.ensures.ready xs o.instance o.view o.seat o.step
+    c.in-Ok.ensures.ready xs o.instance o.view o.seat o.step
     (seat-here p.0 r xs st t a.ask o m e r (before-itself r)) (may-give p.0 r xs st t c.args.right vs a) in (
       xs,
       o.instance,
@@ -58,7 +56,7 @@ give-requires-clause-may c =
       o.seat,
       o.step,
       given-here p.0 r xs st t c.args.right vs a m e c.room_for_result.new.self c.room_for_result.ensures.same
-          c.in_ok-spot.spot ready,
+          c.in-Ok.spot ready,
     )
 
 pub note-requires : goal.note-requires
@@ -74,19 +72,19 @@ note-requires c =
     let a = settles-asked p.0 r t c.args.right vs p.2 in
     let o = a.asked in
     let ready =
-    c.in_ok-spot.ensures.ready xs o.instance o.view o.seat o.step
+    c.in-Ok.ensures.ready xs o.instance o.view o.seat o.step
     (seat-here p.0 r xs st t a.ask o m e r (before-itself r)) (may-give p.0 r xs st t c.args.right vs a) in
     let tells =
     c.give.ensures xs o.instance o.view o.seat o.step
     (given-here p.0 r xs st t c.args.right vs a m e c.room_for_result.new.self c.room_for_result.ensures.same
-    c.in_ok-spot.spot ready) in
+    c.in-Ok.spot ready) in
     let many = ap (λ v. length v.items) tells.changes.rest.entries in
     let room = ap (λ v. vec_capacity v) tells.changes.rest.entries in
     let enough = ready.room.beside.entries in
     omega (arith, many, room, enough)
 
-pub returns-clause-settled : goal.returns-clause-settled
-returns-clause-settled c = λ gives so w.
+pub returns-in-Ok-clause-settled : goal.returns-in-Ok-clause-settled
+returns-in-Ok-clause-settled c = λ gives so w.
     let r = c.args.self.now in
     let t = c.args.ticket in
     let vs = piece_values c.args.pieces in
@@ -98,9 +96,9 @@ returns-clause-settled c = λ gives so w.
     let o = a.asked in
     let b = c.room_for_result.new.self in
     let pre = c.room_for_result.ensures.same in
-    let more = c.in_ok-spot.spot.more in
+    let more = c.in-Ok.spot.more in
     let ready =
-    c.in_ok-spot.ensures.ready xs o.instance o.view o.seat o.step
+    c.in-Ok.ensures.ready xs o.instance o.view o.seat o.step
     (seat-here gives r xs st t a.ask o m e r (before-itself r)) (may-give gives r xs st t c.args.right vs a) in
     let is = found-is gives r xs st t a.ask o m e in
     let tells =
@@ -110,13 +108,13 @@ returns-clause-settled c = λ gives so w.
     (with_stage n.number stage.Settled o.instance.seats))
     is
     (c.give.ensures xs o.instance o.view o.seat o.step
-    (given-here gives r xs st t c.args.right vs a m e b pre c.in_ok-spot.spot ready)) in
+    (given-here gives r xs st t c.args.right vs a m e b pre c.in-Ok.spot ready)) in
     goes-to_but gives r xs st t c.args.right vs a b pre more
     (subst (λ (n : Numbered). HasRoomIn b n.instance more) is ready.room) c.give.new.self c.note.new.self tells
     (subst (IsNoted c.give.new.self c.note.new.self) c.entry_of.ensures c.note.ensures) so.2
 
-pub returns-clause-done : goal.returns-clause-done
-returns-clause-done c = λ gives so w.
+pub returns-in-Ok-clause-done : goal.returns-in-Ok-clause-done
+returns-in-Ok-clause-done c = λ gives so w.
     let r = c.args.self.now in
     let t = c.args.ticket in
     let vs = piece_values c.args.pieces in
@@ -128,9 +126,9 @@ returns-clause-done c = λ gives so w.
     let o = a.asked in
     let b = c.room_for_result.new.self in
     let pre = c.room_for_result.ensures.same in
-    let more = c.in_ok-spot.spot.more in
+    let more = c.in-Ok.spot.more in
     let ready =
-    c.in_ok-spot.ensures.ready xs o.instance o.view o.seat o.step
+    c.in-Ok.ensures.ready xs o.instance o.view o.seat o.step
     (seat-here gives r xs st t a.ask o m e r (before-itself r)) (may-give gives r xs st t c.args.right vs a) in
     let is = found-is gives r xs st t a.ask o m e in
     let tells =
@@ -140,7 +138,7 @@ returns-clause-done c = λ gives so w.
     (with_stage n.number stage.Settled o.instance.seats))
     is
     (c.give.ensures xs o.instance o.view o.seat o.step
-    (given-here gives r xs st t c.args.right vs a m e b pre c.in_ok-spot.spot ready)) in
+    (given-here gives r xs st t c.args.right vs a m e b pre c.in-Ok.spot ready)) in
     settled-job gives r xs st t c.args.right vs a b pre more
     (subst (λ (n : Numbered). HasRoomIn b n.instance more) is ready.room) c.give.new.self c.note.new.self tells
     (subst (IsNoted c.give.new.self c.note.new.self) c.entry_of.ensures c.note.ensures)
