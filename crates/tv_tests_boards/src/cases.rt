@@ -1,8 +1,7 @@
 //! Scripts over boards of worked documents, what is said of each act, and the line once the rest is worked off: the same one,
 //! in whatever order outcomes came.
-use crate::play::{Play, run_of};
+use crate::play::play;
 use std::alloc::Global;
-use std::process::Abort;
 use std::test::Fail;
 
 /// A document, and the line that it comes to.
@@ -113,281 +112,198 @@ const DEEP: Worked = Worked {
     line: "{\"outputs\":{\"out\":[\"a\",\"b\"]},\"totals\":{\"attempts\":4,\"bounced\":0,\"failed\":0,\"jobs\":6}}\n",
 };
 
-/// Scripts with one job: a document, the acts, and what they say.
-static ONE_JOB: [(Worked, &str, &str); 4] = [
+/// Documents, scripts, and what each says before the line.
+static CASES: [(Worked, &str, &str); 31] = [
     // One job: its answer is accepted once, and the run ends.
     (
         ONE,
-        "history settle hand hand task:0/0/0 ask:0/0/0 alone:0/0/0 accept:0 accept:1 done settle settle done totals history",
-        r#" false 0/0/0 none upper o:0["a"] good settled false true false true 1 0 0 1 out 0/0/0;in 0/0/0 true;ended 0; "#,
+        "history settle hand hand task:0/0/0 ask:0/0/0 alone:0/0/0 accept:0 accept:1 done settle settle done totals history rest",
+        r#"false 0/0/0 none upper o:0 ["a"] Settled { good: true } Settled false true false true Totals { attempts: 1, bounced: 0, failed: 0, jobs: 1 } HandedOut { job: 0, activity: 0, attempt: 0 } Accepted { job: 0, activity: 0, attempt: 0, right: true } Ended { instance: 0 } "#,
     ),
     // A board that moves on settles as long as it can, hands out what is on offer, and rests.
     (
         ONE,
-        "move move ask:0/0/0 move accept:0 move move done",
-        "0/0/0 none none good settles none true ",
+        "move move ask:0/0/0 move accept:0 move move done rest",
+        "HandedOut(Ticket { job: 0, activity: 0, attempt: 0 }) Nothing Nothing Settled { good: true } Settled Nothing true ",
     ),
     // A try that was taken back isn't out, and its answer is accepted once it is out again.
     (
         CHAIN,
-        "hand name:0 name:99 ask:0/0/0 recall accept:0 hand accept:0 recall history",
-        "0/0/0 p[0] none 1 idle 0/0 0/0/0 good 0 out 0/0/0;recalled 1;out 0/0/0;in 0/0/0 true; ",
+        "hand name:0 name:99 ask:0/0/0 recall accept:0 hand accept:0 recall history rest",
+        "0/0/0 p[0] none 1 Idle { activity: 0, attempt: 0 } 0/0/0 Settled { good: true } 0 HandedOut { job: 0, activity: 0, attempt: 0 } Recalled { count: 1 } HandedOut { job: 0, activity: 0, attempt: 0 } Accepted { job: 0, activity: 0, attempt: 0, right: true } ",
     ),
     // Where jobs stand whose tries aren't out: there is none of that number, it hasn't begun, and another try of it is out.
     (
         CHAIN,
-        "task:99/0/0 task:0/0/0 hand task:0/0/0 task:0/0/1 task:0/1/0 task:1/0/0 recall task:0/0/0",
-        r#"unknown ready 0/0/0 upper o:0["a"] out 0/0 out 0/0 ready 1 idle 0/0 "#,
+        "task:99/0/0 task:0/0/0 hand task:0/0/0 task:0/0/1 task:0/1/0 task:1/0/0 recall task:0/0/0 rest",
+        r#"NotOut(Unknown) NotOut(Ready) 0/0/0 upper o:0 ["a"] NotOut(Out { activity: 0, attempt: 0 }) NotOut(Out { activity: 0, attempt: 0 }) NotOut(Ready) 1 NotOut(Idle { activity: 0, attempt: 0 }) "#,
     ),
-];
-
-/// Scripts with two texts through two steps: a document, the acts, and what they say.
-static TWO_STEPS: [(Worked, &str, &str); 5] = [
     // Two texts through two steps, of which the first may have two tries out.
-    (CHAIN_BY_TWO, "", ""),
+    (CHAIN_BY_TWO, "rest", ""),
     (
         CHAIN_BY_TWO,
-        "hand ask:0/0/0 accept:0 hand ask:2/0/0 accept:1 hand ask:1/0/0 accept:2",
-        "0/0/0 good 2/0/0 good 1/0/0 good ",
+        "hand ask:0/0/0 accept:0 hand ask:2/0/0 accept:1 hand ask:1/0/0 accept:2 rest",
+        "0/0/0 Settled { good: true } 2/0/0 Settled { good: true } 1/0/0 Settled { good: true } ",
     ),
     (
         CHAIN_BY_TWO,
-        "hand hand hand ask:0/0/0 ask:1/0/0 accept:1 accept:0 hand hand",
-        "0/0/0 1/0/0 none good good 3/0/0 none ",
+        "hand hand hand ask:0/0/0 ask:1/0/0 accept:1 accept:0 hand hand rest",
+        "0/0/0 1/0/0 none Settled { good: true } Settled { good: true } 3/0/0 none ",
     ),
     (
         CHAIN_BY_TWO,
-        "hand hand ask:1/0/0 accept:0 hand ask:0/0/0 ask:2/0/0 accept:2 accept:1",
-        "0/0/0 1/0/0 good 2/0/0 good good ",
+        "hand hand ask:1/0/0 accept:0 hand ask:0/0/0 ask:2/0/0 accept:2 accept:1 rest",
+        "0/0/0 1/0/0 Settled { good: true } 2/0/0 Settled { good: true } Settled { good: true } ",
     ),
     (
         CHAIN_BY_TWO,
-        "hand hand ask:0/0/0 ask:0/0/0 ask:1/0/0 accept:0 accept:1 accept:2 accept:1",
-        "0/0/0 1/0/0 good settled good settled ",
-    ),
-];
-
-/// Scripts with outcomes in any order: a document, the acts, and what they say.
-static IN_ANY_ORDER: [(Worked, &str, &str); 3] = [
-    (
-        CHAIN_BY_TWO,
-        "hand hand ask:0/0/0 ask:1/0/0 recall accept:0 accept:1 hand accept:1 accept:0 hand hand accept:1",
-        "0/0/0 1/0/0 2 idle 0/0 idle 0/0 0/0/0 idle 0/0 good 2/0/0 1/0/0 good ",
+        "hand hand ask:0/0/0 ask:0/0/0 ask:1/0/0 accept:0 accept:1 accept:2 accept:1 rest",
+        "0/0/0 1/0/0 Settled { good: true } Settled Settled { good: true } Settled ",
     ),
     (
         CHAIN_BY_TWO,
-        "recall hand ask:0/0/0 accept:0 recall settles recall",
-        "0 0/0/0 good 0 2 0 ",
+        "hand hand ask:0/0/0 ask:1/0/0 recall accept:0 accept:1 hand accept:1 accept:0 hand hand accept:1 rest",
+        "0/0/0 1/0/0 2 Idle { activity: 0, attempt: 0 } Idle { activity: 0, attempt: 0 } 0/0/0 Idle { activity: 0, attempt: 0 } Settled { good: true } 2/0/0 1/0/0 Settled { good: true } ",
     ),
     (
         CHAIN_BY_TWO,
-        "settles hand hand ask:1/0/0 ask:0/0/0 accept:0 accept:1 settles hand ask:3/0/0 accept:2 hand ask:2/0/0 accept:3 settles settles hand",
-        "2 0/0/0 1/0/0 good good 0 3/0/0 good 2/0/0 good 1 0 none ",
+        "recall hand ask:0/0/0 accept:0 recall settle settle settle recall rest",
+        "0 0/0/0 Settled { good: true } 0 true true false 0 ",
     ),
-];
-
-/// Scripts with texts of which one fails: a document, the acts, and what they say.
-static WITH_A_FAULT: [(Worked, &str, &str); 3] = [
+    (
+        CHAIN_BY_TWO,
+        "settle settle settle hand hand ask:1/0/0 ask:0/0/0 accept:0 accept:1 settle hand ask:3/0/0 accept:2 hand ask:2/0/0 accept:3 settle settle settle hand rest",
+        "true true false 0/0/0 1/0/0 Settled { good: true } Settled { good: true } false 3/0/0 Settled { good: true } 2/0/0 Settled { good: true } true false false none ",
+    ),
     // Three texts, of which one fails.
     (
         FAILURES_BY_THREE,
-        "hand hand hand ask:0/0/0 ask:1/0/0 ask:2/0/0 accept:2 accept:1 accept:0 settles history",
-        "0/0/0 1/0/0 2/0/0 good failed good 3 out 0/0/0;out 1/0/0;out 2/0/0;in 2/0/0 true;in 1/0/0 false;in 0/0/0 true;bounced 4;closed 0/0/0 3;closed 0/1/0 3; ",
+        "hand hand hand ask:0/0/0 ask:1/0/0 ask:2/0/0 accept:2 accept:1 accept:0 settle settle settle settle history rest",
+        "0/0/0 1/0/0 2/0/0 Settled { good: true } Settled { good: false } Settled { good: true } true true true false HandedOut { job: 0, activity: 0, attempt: 0 } HandedOut { job: 1, activity: 0, attempt: 0 } HandedOut { job: 2, activity: 0, attempt: 0 } Accepted { job: 2, activity: 0, attempt: 0, right: true } Accepted { job: 1, activity: 0, attempt: 0, right: false } Accepted { job: 0, activity: 0, attempt: 0, right: true } Bounced { job: 4 } Closed { instance: 0, step: 0, place: Place { indices: [] }, length: 3 } Closed { instance: 0, step: 1, place: Place { indices: [] }, length: 3 } ",
     ),
     (
         FAILURES_BY_THREE,
-        "settles hand hand ask:1/0/0 ask:1/0/0 accept:0 settles settles hand accept:1",
-        "2 0/0/0 1/0/0 failed 1 0 2/0/0 settled ",
+        "settle settle settle hand hand ask:1/0/0 ask:1/0/0 accept:0 settle settle settle hand accept:1 rest",
+        "true true false 0/0/0 1/0/0 Settled { good: false } true false false 2/0/0 Settled ",
     ),
     (
         FAILURES_BY_THREE,
-        "hand hand hand ask:1/0/0 ask:1/0/0 recall hand hand accept:1 accept:0 settles",
-        "0/0/0 1/0/0 2/0/0 3 0/0/0 1/0/0 failed settled 3 ",
+        "hand hand hand ask:1/0/0 ask:1/0/0 recall hand hand accept:1 accept:0 settle settle settle settle rest",
+        "0/0/0 1/0/0 2/0/0 3 0/0/0 1/0/0 Settled { good: false } Settled true true true false ",
     ),
-];
-
-/// Scripts with tries one after another: a document, the acts, and what they say.
-static TRIES: [(Worked, &str, &str); 3] = [
     // The tries of one job come one after another, and an answer is for its own try.
     (
         FLAKY,
-        "hand hand ask:0/0/0 ask:0/0/0 accept:0 accept:1 settles hand accept:1 ask:0/0/1 accept:2 hand ask:0/0/2 accept:3 settles",
-        "0/0/0 none again idle 0/1 0 0/0/1 out 0/1 again 0/0/2 good 1 ",
+        "hand hand ask:0/0/0 ask:0/0/0 accept:0 accept:1 settle hand accept:1 ask:0/0/1 accept:2 hand ask:0/0/2 accept:3 settle settle rest",
+        "0/0/0 none Again Idle { activity: 0, attempt: 1 } false 0/0/1 Out { activity: 0, attempt: 1 } Again 0/0/2 Settled { good: true } true false ",
     ),
     // After the last try of one activity comes the first of the next.
     (
         FAILOVER,
-        "hand ask:0/0/0 accept:0 hand ask:0/0/1 recall accept:1 hand accept:1 hand ask:0/1/0 recall hand accept:2",
-        "0/0/0 again 0/0/1 1 idle 0/1 0/0/1 again 0/1/0 1 0/1/0 good ",
+        "hand ask:0/0/0 accept:0 hand ask:0/0/1 recall accept:1 hand accept:1 hand ask:0/1/0 recall hand accept:2 rest",
+        "0/0/0 Again 0/0/1 1 Idle { activity: 0, attempt: 1 } 0/0/1 Again 0/1/0 1 0/1/0 Settled { good: true } ",
     ),
     // A second instance is opened once the first has no try on offer, and a third where a place is
     // free. Recalled tries are on offer again, and their instances stay open.
     (
         NESTED,
-        "settles task:0/0/0 task:1/0/0 hand settle settle hand hand name:3 name:4 ask:3/0/0 ask:4/0/0 recall settle accept:0 hand accept:1 hand accept:1 settles accept:0 settles hand ask:5/0/0 accept:2 settles done totals history",
-        "2 nested ready 3/0/0 true false 4/0/0 none n[0]/u[] n[1]/u[] 2 false idle 0/0 3/0/0 idle 0/0 4/0/0 good 2 good 1 5/0/0 good 2 true 3 0 0 6 closed 0/0/0 3;opened 0 1;out 3/0/0;opened 1 2;out 4/0/0;recalled 2;out 3/0/0;out 4/0/0;in 4/0/0 true;ended 2;opened 2 3;in 3/0/0 true;ended 1;out 5/0/0;in 5/0/0 true;ended 3;ended 0; ",
+        "settle settle settle task:0/0/0 task:1/0/0 hand settle settle hand hand name:3 name:4 ask:3/0/0 ask:4/0/0 recall settle accept:0 hand accept:1 hand accept:1 settle settle settle accept:0 settle settle hand ask:5/0/0 accept:2 settle settle settle done totals history rest",
+        "true true false NotOut(Nested) NotOut(Ready) 3/0/0 true false 4/0/0 none n[0]/u[] n[1]/u[] 2 false Idle { activity: 0, attempt: 0 } 3/0/0 Idle { activity: 0, attempt: 0 } 4/0/0 Settled { good: true } true true false Settled { good: true } true false 5/0/0 Settled { good: true } true true false true Totals { attempts: 3, bounced: 0, failed: 0, jobs: 6 } Closed { instance: 0, step: 0, place: Place { indices: [] }, length: 3 } Opened { job: 0, instance: 1 } HandedOut { job: 3, activity: 0, attempt: 0 } Opened { job: 1, instance: 2 } HandedOut { job: 4, activity: 0, attempt: 0 } Recalled { count: 2 } HandedOut { job: 3, activity: 0, attempt: 0 } HandedOut { job: 4, activity: 0, attempt: 0 } Accepted { job: 4, activity: 0, attempt: 0, right: true } Ended { instance: 2 } Opened { job: 2, instance: 3 } Accepted { job: 3, activity: 0, attempt: 0, right: true } Ended { instance: 1 } HandedOut { job: 5, activity: 0, attempt: 0 } Accepted { job: 5, activity: 0, attempt: 0, right: true } Ended { instance: 3 } Ended { instance: 0 } ",
     ),
-];
-
-/// Scripts with instances of a nested flow: a document, the acts, and what they say.
-static INSTANCES: [(Worked, &str, &str); 4] = [
     // A job whose services failed is idle until its instance is opened, with the place that it has; it
     // waits while a job before it has a try on offer.
     (
         NESTED_FAILOVER,
-        "settles hand hand ask:0/0/0 accept:0 task:0/0/0 hand ask:0/0/1 accept:1 task:0/1/0 hand settle task:0/1/0 settle hand hand ask:2/0/0 accept:2 settle settle hand ask:1/0/0 accept:3 settles totals",
-        "1 0/0/0 none again idle 0/1 0/0/1 again idle 1/0 none true nested false 2/0/0 none good true false 1/0/0 good 1 4 0 0 3 ",
+        "settle settle hand hand ask:0/0/0 accept:0 task:0/0/0 hand ask:0/0/1 accept:1 task:0/1/0 hand settle task:0/1/0 settle hand hand ask:2/0/0 accept:2 settle settle hand ask:1/0/0 accept:3 settle settle totals rest",
+        "true false 0/0/0 none Again NotOut(Idle { activity: 0, attempt: 1 }) 0/0/1 Again NotOut(Idle { activity: 1, attempt: 0 }) none true NotOut(Nested) false 2/0/0 none Settled { good: true } true false 1/0/0 Settled { good: true } true false Totals { attempts: 4, bounced: 0, failed: 0, jobs: 3 } ",
     ),
     (
         NESTED_FAILOVER_BY_TWO,
-        "settles hand hand ask:0/0/0 ask:1/0/0 accept:1 task:1/1/0 recall settle hand settle accept:0 settles hand ask:2/0/0 accept:2 settles done",
-        "1 0/0/0 1/0/0 again idle 1/0 1 false 0/0/0 true good 0 2/0/0 good 2 true ",
+        "settle settle hand hand ask:0/0/0 ask:1/0/0 accept:1 task:1/1/0 recall settle hand settle accept:0 settle hand ask:2/0/0 accept:2 settle settle settle done rest",
+        "true false 0/0/0 1/0/0 Again NotOut(Idle { activity: 1, attempt: 0 }) 1 false 0/0/0 true Settled { good: true } false 2/0/0 Settled { good: true } true true false true ",
     ),
     // A fault of an instance stands in its job's place, and the job of the next step bounces; the
     // nested job itself is right.
     (
         NESTED_FAILURE,
-        "settles hand settles hand ask:2/0/0 ask:3/0/0 accept:0 settles task:4/0/0 accept:1 settles hand ask:5/0/0 accept:2 settles totals history",
-        "3 2/0/0 1 3/0/0 failed 2 settled good 1 5/0/0 good 1 3 1 1 6 closed 0/0/0 2;closed 0/1/0 2;opened 0 1;out 2/0/0;opened 1 2;out 3/0/0;in 2/0/0 false;ended 1;bounced 4;in 3/0/0 true;ended 2;out 5/0/0;in 5/0/0 true;ended 0; ",
+        "settle settle settle settle hand settle settle hand ask:2/0/0 ask:3/0/0 accept:0 settle settle settle task:4/0/0 accept:1 settle settle hand ask:5/0/0 accept:2 settle settle totals history rest",
+        "true true true false 2/0/0 true false 3/0/0 Settled { good: false } true true false NotOut(Settled) Settled { good: true } true false 5/0/0 Settled { good: true } true false Totals { attempts: 3, bounced: 1, failed: 1, jobs: 6 } Closed { instance: 0, step: 0, place: Place { indices: [] }, length: 2 } Closed { instance: 0, step: 1, place: Place { indices: [] }, length: 2 } Opened { job: 0, instance: 1 } HandedOut { job: 2, activity: 0, attempt: 0 } Opened { job: 1, instance: 2 } HandedOut { job: 3, activity: 0, attempt: 0 } Accepted { job: 2, activity: 0, attempt: 0, right: false } Ended { instance: 1 } Bounced { job: 4 } Accepted { job: 3, activity: 0, attempt: 0, right: true } Ended { instance: 2 } HandedOut { job: 5, activity: 0, attempt: 0 } Accepted { job: 5, activity: 0, attempt: 0, right: true } Ended { instance: 0 } ",
     ),
     // The same board, moved on: it opens flows and hands out in their order, and what is out doesn't hold it up.
     (
         NESTED_FAILURE,
-        "move move move move move move move ask:2/0/0 ask:3/0/0 accept:0 move move move accept:1",
-        "settles settles settles 2/0/0 settles 3/0/0 none failed settles settles none good ",
+        "move move move move move move move ask:2/0/0 ask:3/0/0 accept:0 move move move accept:1 rest",
+        "Settled Settled Settled HandedOut(Ticket { job: 2, activity: 0, attempt: 0 }) Settled HandedOut(Ticket { job: 3, activity: 0, attempt: 0 }) Nothing Settled { good: false } Settled Settled Nothing Settled { good: true } ",
     ),
-];
-
-/// Scripts with faults and recalls inside an instance: a document, the acts, and what they say.
-static INNER_FAULTS: [(Worked, &str, &str); 4] = [
     // A recall takes back what is out in an instance two flows deep, which stays open; a job's attempts
     // go on from there.
     (
         DEEP,
-        "settles recall hand name:3 ask:3/0/0 recall task:3/0/0 task:2/0/0 settle accept:0 hand accept:0 recall hand ask:3/0/1 recall accept:1 hand accept:1 settles history",
-        "3 0 3/0/0 k[0]/n[]/f[] 1 idle 0/0 nested false idle 0/0 3/0/0 again 0 3/0/1 1 idle 0/1 3/0/1 good 4 closed 0/0/0 2;opened 0 1;opened 2 2;out 3/0/0;recalled 1;out 3/0/0;in 3/0/0 false;out 3/0/1;recalled 1;out 3/0/1;in 3/0/1 true;ended 2;ended 1;opened 1 3;opened 4 4; ",
+        "settle settle settle settle recall hand name:3 ask:3/0/0 recall task:3/0/0 task:2/0/0 settle accept:0 hand accept:0 recall hand ask:3/0/1 recall accept:1 hand accept:1 settle settle settle settle settle history rest",
+        "true true true false 0 3/0/0 k[0]/n[]/f[] 1 NotOut(Idle { activity: 0, attempt: 0 }) NotOut(Nested) false Idle { activity: 0, attempt: 0 } 3/0/0 Again 0 3/0/1 1 Idle { activity: 0, attempt: 1 } 3/0/1 Settled { good: true } true true true true false Closed { instance: 0, step: 0, place: Place { indices: [] }, length: 2 } Opened { job: 0, instance: 1 } Opened { job: 2, instance: 2 } HandedOut { job: 3, activity: 0, attempt: 0 } Recalled { count: 1 } HandedOut { job: 3, activity: 0, attempt: 0 } Accepted { job: 3, activity: 0, attempt: 0, right: false } HandedOut { job: 3, activity: 0, attempt: 1 } Recalled { count: 1 } HandedOut { job: 3, activity: 0, attempt: 1 } Accepted { job: 3, activity: 0, attempt: 1, right: true } Ended { instance: 2 } Ended { instance: 1 } Opened { job: 1, instance: 3 } Opened { job: 4, instance: 4 } ",
     ),
     // A nested step waits for the step that it runs after, and a step that runs after it for all its
     // instances.
     (
         NESTED_AFTER,
-        "settles name:0 name:1 name:2 name:3 task:1/0/0 hand hand settle ask:0/0/0 accept:0 task:1/0/0 settle settle task:1/0/0 hand settle hand hand ask:4/0/0 ask:5/0/0 accept:2 settle settle task:3/0/0 accept:1 task:3/0/0 settle task:3/0/0 settle hand ask:3/0/0 accept:3 settles done",
-        "1 p[] q[0] q[1] r[] waiting 0/0/0 none false good ready true false nested 4/0/0 true 5/0/0 none good true false waiting good waiting true ready false 3/0/0 good 1 true ",
+        "settle settle name:0 name:1 name:2 name:3 task:1/0/0 hand hand settle ask:0/0/0 accept:0 task:1/0/0 settle settle task:1/0/0 hand settle hand hand ask:4/0/0 ask:5/0/0 accept:2 settle settle task:3/0/0 accept:1 task:3/0/0 settle task:3/0/0 settle hand ask:3/0/0 accept:3 settle settle done rest",
+        "true false p[] q[0] q[1] r[] NotOut(Waiting) 0/0/0 none false Settled { good: true } NotOut(Ready) true false NotOut(Nested) 4/0/0 true 5/0/0 none Settled { good: true } true false NotOut(Waiting) Settled { good: true } NotOut(Waiting) true NotOut(Ready) false 3/0/0 Settled { good: true } true false true ",
     ),
     // Each job once it is settled, whatever the order of outcomes, and none before.
     (
         CROSS_BY_FOUR,
-        "noted:c hand hand hand noted:c ask:1/0/0 accept:0 noted:c ask:0/0/0 accept:1 noted:c recall noted:c noted:x",
-        "; 0/0/0 1/0/0 2/0/0 ; good c[0,1]<x[0]<y[1] ; good c[0,0]<x[0]<y[0] c[0,1]<x[0]<y[1] ; 1 c[0,0]<x[0]<y[0] c[0,1]<x[0]<y[1] ; ; ",
+        "noted:c hand hand hand noted:c ask:1/0/0 accept:0 noted:c ask:0/0/0 accept:1 noted:c recall noted:c noted:x rest",
+        "; 0/0/0 1/0/0 2/0/0 ; Settled { good: true } c[0,1] <x[0] <y[1] ; Settled { good: true } c[0,0] <x[0] <y[0] c[0,1] <x[0] <y[1] ; 1 c[0,0] <x[0] <y[0] c[0,1] <x[0] <y[1] ; ; ",
     ),
     // A job on an item of a list that isn't whole yet.
     (
         CHAIN,
-        "hand ask:0/0/0 accept:0 noted:q settles hand noted:p hand name:2 ask:2/0/0 accept:1 noted:q noted:p",
-        "0/0/0 good ; 2 2/0/0 p[0]<x[0] ; 1/0/0 q[0] good q[0]<x[0] ; p[0]<x[0] ; ",
+        "hand ask:0/0/0 accept:0 noted:q settle settle settle hand noted:p hand name:2 ask:2/0/0 accept:1 noted:q noted:p rest",
+        "0/0/0 Settled { good: true } ; true true false 2/0/0 p[0] <x[0] ; 1/0/0 q[0] Settled { good: true } q[0] <x[0] ; p[0] <x[0] ; ",
     ),
-];
-
-/// Scripts with jobs once they are settled: a document, the acts, and what they say.
-static NOTED: [(Worked, &str, &str); 3] = [
     // A job that has failed is noted, and one that bounced, which leads through it.
     (
         FAILURES,
-        "hand ask:0/0/0 accept:0 noted:f noted:u settles noted:u hand name:1",
-        "0/0/0 failed f[0]<x[0] ; ; 3 u[0]<x[0] ; 1/0/0 f[1] ",
+        "hand ask:0/0/0 accept:0 noted:f noted:u settle settle settle settle noted:u hand name:1 rest",
+        "0/0/0 Settled { good: false } f[0] <x[0] ; ; true true true false u[0] <x[0] ; 1/0/0 f[1] ",
     ),
     (
         PASSED,
-        "hand ask:0/0/0 accept:0 noted:r noted:u settles noted:u done",
-        "0/0/0 failed r[] ; ; 2 ; true ",
+        "hand ask:0/0/0 accept:0 noted:r noted:u settle settle settle noted:u done rest",
+        "0/0/0 Settled { good: false } r[] ; ; true true false ; true ",
     ),
     // All that a merge takes in.
     (
         MERGE,
-        "noted:e hand ask:0/0/0 accept:0 noted:e",
-        "; 0/0/0 good e[]<x[]<y[] ; ",
+        "noted:e hand ask:0/0/0 accept:0 noted:e rest",
+        "; 0/0/0 Settled { good: true } e[] <x[] <y[] ; ",
     ),
-];
-
-/// Scripts with lists, nested jobs and nodes: a document, the acts, and what they say.
-static LISTS_AND_NODES: [(Worked, &str, &str); 2] = [
     // A nested job is noted once its instance has ended, and no job inside an instance is.
     (
         NESTED_TWO,
-        "settles hand settle hand ask:2/0/0 ask:3/0/0 accept:1 noted:n noted:u settles noted:n noted:u accept:0 settles noted:n done",
-        "2 2/0/0 true 3/0/0 good ; ; 1 n[1]<x[1] ; ; good 2 n[0]<x[0] n[1]<x[1] ; true ",
+        "settle settle settle hand settle hand ask:2/0/0 ask:3/0/0 accept:1 noted:n noted:u settle settle noted:n noted:u accept:0 settle settle settle noted:n done rest",
+        "true true false 2/0/0 true 3/0/0 Settled { good: true } ; ; true false n[1] <x[1] ; ; Settled { good: true } true true false n[0] <x[0] n[1] <x[1] ; true ",
     ),
     // A board keeps nodes while its run goes on, and none once that is done.
     (
         CROSS_BY_FOUR,
-        "keeps hand hand hand hand ask:0/0/0 ask:1/0/0 ask:2/0/0 ask:3/0/0 accept:0 accept:1 accept:2 accept:3 settles keeps done",
-        "true 0/0/0 1/0/0 2/0/0 3/0/0 good good good good 4 false true ",
+        "keeps hand hand hand hand ask:0/0/0 ask:1/0/0 ask:2/0/0 ask:3/0/0 accept:0 accept:1 accept:2 accept:3 settle settle settle settle settle keeps done rest",
+        "true 0/0/0 1/0/0 2/0/0 3/0/0 Settled { good: true } Settled { good: true } Settled { good: true } Settled { good: true } true true true true false false true ",
     ),
 ];
 
-/// What is said of a script, and then the line.
-fn played(alloc: Global, document: &str, script: &str) -> Result<Play, Fail> {
-    let mut play = Play::start(alloc, run_of(alloc, document)?)?;
-    play.acts(script)?;
-    play.work_off()?;
-    Ok(play)
+/// What a script says on a board of a document.
+fn played(alloc: Global, document: &str, script: &str) -> Result<String, Fail> {
+    let mut said = String::new(alloc);
+    play(alloc, document, script, &mut Vec::new(alloc), &mut said)?;
+    Ok(said)
 }
 
-/// Holds what each script says, and then the line, against what is due.
-fn say_what_is_due(
-    rt: &impl Abort,
-    alloc: Global,
-    cases: &[(Worked, &str, &str)],
-) -> Result<(), Fail> {
-    for (worked, script, said) in cases {
-        let play = played(alloc, worked.document, script)?;
-        let due = (*said, worked.line);
-        assert_eq!(rt; (play.said.as_str(), play.line.as_str()), due, "{script}");
+#[test]
+fn each_script_says_what_is_due(rt: HostRuntime) -> Result<(), Fail> {
+    for (worked, script, due) in &CASES {
+        let said = played(rt.alloc(), worked.document, script)?;
+        assert_eq!(rt; said.strip_suffix(worked.line), Some(*due), "{script}");
     }
     Ok(())
-}
-
-#[test]
-fn one_job_as_due(rt: HostRuntime) -> Result<(), Fail> {
-    say_what_is_due(&rt, rt.alloc(), &ONE_JOB)
-}
-
-#[test]
-fn two_steps_as_due(rt: HostRuntime) -> Result<(), Fail> {
-    say_what_is_due(&rt, rt.alloc(), &TWO_STEPS)
-}
-
-#[test]
-fn in_any_order_as_due(rt: HostRuntime) -> Result<(), Fail> {
-    say_what_is_due(&rt, rt.alloc(), &IN_ANY_ORDER)
-}
-
-#[test]
-fn with_a_fault_as_due(rt: HostRuntime) -> Result<(), Fail> {
-    say_what_is_due(&rt, rt.alloc(), &WITH_A_FAULT)
-}
-
-#[test]
-fn tries_as_due(rt: HostRuntime) -> Result<(), Fail> {
-    say_what_is_due(&rt, rt.alloc(), &TRIES)
-}
-
-#[test]
-fn instances_as_due(rt: HostRuntime) -> Result<(), Fail> {
-    say_what_is_due(&rt, rt.alloc(), &INSTANCES)
-}
-
-#[test]
-fn inner_faults_as_due(rt: HostRuntime) -> Result<(), Fail> {
-    say_what_is_due(&rt, rt.alloc(), &INNER_FAULTS)
-}
-
-#[test]
-fn noted_as_due(rt: HostRuntime) -> Result<(), Fail> {
-    say_what_is_due(&rt, rt.alloc(), &NOTED)
-}
-
-#[test]
-fn lists_and_nodes_as_due(rt: HostRuntime) -> Result<(), Fail> {
-    say_what_is_due(&rt, rt.alloc(), &LISTS_AND_NODES)
 }

@@ -1,5 +1,5 @@
 //! Answers that were made for another board: they are accepted exactly where the try is out and asks the same.
-use crate::play::{Play, run_of};
+use crate::play::play;
 use std::alloc::Global;
 use std::test::Fail;
 
@@ -16,57 +16,66 @@ const SECOND: &str = "hand ask:0/0/0 accept:0 hand ask:2/0/0";
 
 const THIRD: &str = "hand ask:0/0/0 accept:0 hand ask:2/0/0 accept:1 hand ask:1/0/0";
 
-/// The document of the other board, its script, the script here, and what is said here.
+/// The document of the other board, its script, the script here, and what both say before the line.
 static CASES: [(&str, &str, &str, &str); 7] = [
-    (HERE, FIRST, "hand accept:0", "0/0/0 good "),
+    (
+        HERE,
+        FIRST,
+        "hand accept:0 rest",
+        "0/0/0 0/0/0 Settled { good: true } ",
+    ),
     (
         r#"{"taverna":1,"main":"m","flows":{"m":{"inputs":{"x":1},"steps":{"p":{"inputs":{"a":{"depth":0,"from":{"input":"x"}}},"outputs":{"o":0},"activities":[{"service":"upper"}]},"q":{"inputs":{"a":{"depth":0,"from":{"step":"p","port":"o"}}},"outputs":{"o":0},"activities":[{"service":"lower"}]}},"outputs":{"out":{"step":"q","port":"o"}}}},"inputs":{"x":["a","c","d"]}}"#,
         FIRST,
-        "hand accept:0",
-        "0/0/0 good ",
+        "hand accept:0 rest",
+        "0/0/0 0/0/0 Settled { good: true } ",
     ),
     (
         r#"{"taverna":1,"main":"m","flows":{"m":{"inputs":{"x":1},"steps":{"p":{"inputs":{"a":{"depth":0,"from":{"input":"x"}}},"outputs":{"o":0},"activities":[{"service":"upper"}]},"q":{"inputs":{"a":{"depth":0,"from":{"step":"p","port":"o"}}},"outputs":{"o":0},"activities":[{"service":"lower"}]}},"outputs":{"out":{"step":"q","port":"o"}}}},"inputs":{"x":["b","b"]}}"#,
         FIRST,
-        "hand accept:0",
-        "0/0/0 other ",
+        "hand accept:0 rest",
+        "0/0/0 0/0/0 other ",
     ),
     (
         r#"{"taverna":1,"main":"m","flows":{"m":{"inputs":{"x":1},"steps":{"p":{"inputs":{"a":{"depth":0,"from":{"input":"x"}}},"outputs":{"o":0},"activities":[{"service":"lower"}]},"q":{"inputs":{"a":{"depth":0,"from":{"step":"p","port":"o"}}},"outputs":{"o":0},"activities":[{"service":"lower"}]}},"outputs":{"out":{"step":"q","port":"o"}}}},"inputs":{"x":["a","b"]}}"#,
         FIRST,
-        "hand accept:0",
-        "0/0/0 other ",
+        "hand accept:0 rest",
+        "0/0/0 0/0/0 other ",
     ),
     (
         r#"{"taverna":1,"main":"m","flows":{"m":{"inputs":{"x":1},"steps":{"p":{"inputs":{"a":{"depth":0,"from":{"input":"x"}}},"outputs":{"o":1},"activities":[{"service":"upper"}]},"q":{"inputs":{"a":{"depth":0,"from":{"step":"p","port":"o"}}},"outputs":{"o":0},"activities":[{"service":"lower"}]}},"outputs":{"out":{"step":"q","port":"o"}}}},"inputs":{"x":["a","b"]}}"#,
         FIRST,
-        "hand accept:0",
-        "0/0/0 other ",
+        "hand accept:0 rest",
+        "0/0/0 0/0/0 other ",
     ),
-    (HERE, SECOND, "hand accept:1", "0/0/0 unknown "),
-    (HERE, THIRD, "hand accept:2", "0/0/0 ready "),
+    (
+        HERE,
+        SECOND,
+        "hand accept:1 rest",
+        "0/0/0 Settled { good: true } 2/0/0 0/0/0 Unknown ",
+    ),
+    (
+        HERE,
+        THIRD,
+        "hand accept:2 rest",
+        "0/0/0 Settled { good: true } 2/0/0 Settled { good: true } 1/0/0 0/0/0 Ready ",
+    ),
 ];
 
-/// Plays here with the answers that were made elsewhere.
-fn played(alloc: Global, document: &str, script: &str, here: &str) -> Result<Play, Fail> {
-    let mut other = Play::start(alloc, run_of(alloc, document)?)?;
-    other.acts(script)?;
-    let mut play = Play::start(alloc, run_of(alloc, HERE)?)?;
-    play.take_answers(other);
-    play.acts(here)?;
-    play.work_off()?;
-    Ok(play)
+/// What both scripts say, the second one here with the answers that the first one brought.
+fn played(alloc: Global, document: &str, script: &str, here: &str) -> Result<String, Fail> {
+    let mut said = String::new(alloc);
+    let mut answers = Vec::new(alloc);
+    play(alloc, document, script, &mut answers, &mut said)?;
+    play(alloc, HERE, here, &mut answers, &mut said)?;
+    Ok(said)
 }
 
 #[test]
 fn answers_of_other_boards(rt: HostRuntime) -> Result<(), Fail> {
-    for (document, script, here, said) in CASES {
-        let play = played(rt.alloc(), document, script, here)?;
-        assert_eq!(rt;
-            (play.said.as_str(), play.line.as_str()),
-            (said, LINE),
-            "{document}"
-        );
+    for (document, script, here, due) in CASES {
+        let said = played(rt.alloc(), document, script, here)?;
+        assert_eq!(rt; said.strip_suffix(LINE), Some(due), "{document}");
     }
     Ok(())
 }

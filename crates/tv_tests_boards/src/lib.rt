@@ -1,8 +1,7 @@
 //! Boards call by call: tests that play scripts over boards of worked documents, in which outcomes come in any order.
 //!
-//! - `play`: a board with the answers that came of it, and how scripts are written
-//! - `telling`: how entries, tasks and states are said
-//! - `cases`: the scripts, and what is said of each
+//! - `play`: a board that is played by a script, how scripts are written, and what they say
+//! - `cases`: the scripts, and what each says
 //! - `elsewhere`: answers that were made for another board
 #![tactic(auto)]
 
@@ -12,5 +11,3 @@ mod cases;
 mod elsewhere;
 #[cfg(test)]
 mod play;
-#[cfg(test)]
-mod telling;
