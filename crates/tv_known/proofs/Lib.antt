@@ -2,6 +2,10 @@ mod Steps
 mod Nodes
 mod Gives
 mod Values
+mod Instances
+mod Outputs
 mod Below
 mod Here
 mod Known
+mod Tries
+mod Once

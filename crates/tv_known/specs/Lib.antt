@@ -1,4 +1,5 @@
 pub mod Meant
 pub mod Frames
 pub mod Stated
+pub mod Once
 pub mod Worked

@@ -1,11 +1,11 @@
 -- What a run is meant to have in one of its instances: at the outputs and ports of its steps, and at the outputs of its flow.
 use Rattle.std.specs.Option.{option_map_or}
-use Rattle.std.specs.Prelude.{◌&&◌, Bool, List, [], ◌∷◌, Option, find, map, option_and_then, option_map}
+use Rattle.std.specs.Prelude.{ℕ, ◌&&◌, Bool, List, [], ◌∷◌, Option, find, map, option_and_then, option_map, slice_get}
 use Rattle.tv_value.specs.Orders.{named, same_job, same_name}
 use Rattle.tv_value.specs.Values.{JobName, Name, Value}
 use Rattle.tv_strategy.specs.Origins.{Traced, plain}
 use Rattle.tv_model.specs.instance.Delivered.{StepMeaning}
-use Rattle.tv_model.specs.Made.{Meaning}
+use Rattle.tv_model.specs.Made.{Instance, Meaning}
 
 -- it is step t of the instance I
 abbrev pub is_step : JobName → Name → StepMeaning → Bool
@@ -29,3 +29,12 @@ port_value m I t p =
 abbrev pub flow_values : Meaning → JobName → List Value
 flow_values m [] = map (λ o. plain o.1) m.outputs
 flow_values m (k ∷ n) = option_map_or (λ j. j.result) (find (λ j. same_job (k ∷ n) j.name) m.jobs) []
+
+-- the instance of that name, with what it gives
+abbrev pub instance_at : Meaning → JobName → Option Instance
+instance_at m I = find (λ i. same_job I i.name) m.instances
+
+-- the value at the k-th output of its flow, with the origin of each node
+abbrev pub flow_output_value : Meaning → JobName → ℕ → Option Traced
+flow_output_value m I k =
+    option_and_then (λ i. option_map (λ o. o.1) (slice_get i.outputs k)) (instance_at m I)

@@ -1,8 +1,8 @@
--- What a board knows so far of its open instances is below what they are meant to have; of outputs and ports of steps it is all that is
--- known after its history.
+-- What a board knows so far of its open instances is below what they are meant to have, and is all
+-- that is known after its history: of outputs and ports of steps, and of the outputs of flows.
 -- The run r is the board's: that it stands so (`StandsStill`) by what the services give is what the type of boards keeps.
 use Rattle.std.specs.Option.{IsSomeAnd}
-use Rattle.std.specs.Prelude.{◌≡◌, ℕ, Bool, true, Some, slice_get}
+use Rattle.std.specs.Prelude.{◌≡◌, ℕ, Bool, true, Some, option_map, slice_get}
 use Rattle.tv_lemmas.specs.Members.{In}
 use Rattle.tv_value.specs.Values.{JobName, Name}
 use Rattle.tv_gate.specs.Outcomes.{Giving}
@@ -18,7 +18,7 @@ use Rattle.tv_run.specs.Inner.{Frame}
 use Rattle.tv_run.specs.Standing.{StandsStill, run_of}
 use Rattle.tv_run.specs.declared.run.OpenRun.{OpenRun}
 use Rattle.tv_known.specs.Frames.{IsFrameOf}
-use Rattle.tv_known.specs.Meant.{flow_values, output_value, port_value}
+use Rattle.tv_known.specs.Meant.{flow_output_value, flow_values, output_value, port_value}
 
 -- each instance that is open has a frame
 abbrev pub OpenInstancesHaveFrames : Type 0
@@ -87,3 +87,19 @@ KnownPortsAreExact =
     (s : Name × Step) → In s flow.steps → (i : Name × StepInput) → In i s.1.inputs
     → IsSomeAnd (port_value (meant gives (run_of r)) I s.0 i.0)
     (IsAllKnown (known_now gives r) (known_of_port r.pool f flow i.1)))
+
+-- and so does what is known of each output of the flow
+abbrev pub KnownFlowOutputsAreExact : Type 0
+KnownFlowOutputsAreExact =
+    OfOpenInstances (λ gives r I flow f.
+    (k : ℕ) (o : Name × Feed) → slice_get flow.outputs k ≡ Some o
+    → IsSomeAnd (flow_output_value (meant gives (run_of r)) I k)
+    (IsAllKnown (known_now gives r) (known_of_feed r.pool f flow o.1)))
+
+-- of which the values, without origins, are those that the flow is meant to give
+abbrev pub FlowOutputsHaveTheirValues : Type 0
+FlowOutputsHaveTheirValues =
+    OfOpenInstances (λ gives r I flow f.
+    (k : ℕ)
+    → option_map plain (flow_output_value (meant gives (run_of r)) I k)
+    ≡ slice_get (flow_values (meant gives (run_of r)) I) k)
