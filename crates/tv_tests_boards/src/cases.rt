@@ -2,6 +2,7 @@
 //! in whatever order outcomes came.
 use crate::play::play;
 use std::alloc::Global;
+use std::process::Abort;
 use std::test::Fail;
 
 /// A document, and the line that it comes to.
@@ -113,7 +114,7 @@ const DEEP: Worked = Worked {
 };
 
 /// Documents, scripts, and what each says before the line.
-static CASES: [(Worked, &str, &str); 31] = [
+static ONE_JOB: [(Worked, &str, &str); 4] = [
     // One job: its answer is accepted once, and the run ends.
     (
         ONE,
@@ -138,6 +139,9 @@ static CASES: [(Worked, &str, &str); 31] = [
         "task:99/0/0 task:0/0/0 hand task:0/0/0 task:0/0/1 task:0/1/0 task:1/0/0 recall task:0/0/0 rest",
         r#"NotOut(Unknown) NotOut(Ready) 0/0/0 upper o:0 ["a"] NotOut(Out { activity: 0, attempt: 0 }) NotOut(Out { activity: 0, attempt: 0 }) NotOut(Ready) 1 NotOut(Idle { activity: 0, attempt: 0 }) "#,
     ),
+];
+
+static TWO_STEPS: [(Worked, &str, &str); 5] = [
     // Two texts through two steps, of which the first may have two tries out.
     (CHAIN_BY_TWO, "rest", ""),
     (
@@ -160,6 +164,9 @@ static CASES: [(Worked, &str, &str); 31] = [
         "hand hand ask:0/0/0 ask:0/0/0 ask:1/0/0 accept:0 accept:1 accept:2 accept:1 rest",
         "0/0/0 1/0/0 Settled { good: true } Settled Settled { good: true } Settled ",
     ),
+];
+
+static IN_ANY_ORDER: [(Worked, &str, &str); 3] = [
     (
         CHAIN_BY_TWO,
         "hand hand ask:0/0/0 ask:1/0/0 recall accept:0 accept:1 hand accept:1 accept:0 hand hand accept:1 rest",
@@ -175,6 +182,9 @@ static CASES: [(Worked, &str, &str); 31] = [
         "settle settle settle hand hand ask:1/0/0 ask:0/0/0 accept:0 accept:1 settle hand ask:3/0/0 accept:2 hand ask:2/0/0 accept:3 settle settle settle hand rest",
         "true true false 0/0/0 1/0/0 Settled { good: true } Settled { good: true } false 3/0/0 Settled { good: true } 2/0/0 Settled { good: true } true false false none ",
     ),
+];
+
+static WITH_A_FAULT: [(Worked, &str, &str); 3] = [
     // Three texts, of which one fails.
     (
         FAILURES_BY_THREE,
@@ -191,6 +201,9 @@ static CASES: [(Worked, &str, &str); 31] = [
         "hand hand hand ask:1/0/0 ask:1/0/0 recall hand hand accept:1 accept:0 settle settle settle settle rest",
         "0/0/0 1/0/0 2/0/0 3 0/0/0 1/0/0 Settled { good: false } Settled true true true false ",
     ),
+];
+
+static TRIES: [(Worked, &str, &str); 3] = [
     // The tries of one job come one after another, and an answer is for its own try.
     (
         FLAKY,
@@ -210,6 +223,9 @@ static CASES: [(Worked, &str, &str); 31] = [
         "settle settle settle task:0/0/0 task:1/0/0 hand settle settle hand hand name:3 name:4 ask:3/0/0 ask:4/0/0 recall settle accept:0 hand accept:1 hand accept:1 settle settle settle accept:0 settle settle hand ask:5/0/0 accept:2 settle settle settle done totals history rest",
         "true true false NotOut(Nested) NotOut(Ready) 3/0/0 true false 4/0/0 none n[0]/u[] n[1]/u[] 2 false Idle { activity: 0, attempt: 0 } 3/0/0 Idle { activity: 0, attempt: 0 } 4/0/0 Settled { good: true } true true false Settled { good: true } true false 5/0/0 Settled { good: true } true true false true Totals { attempts: 3, bounced: 0, failed: 0, jobs: 6 } Closed { instance: 0, step: 0, place: Place { indices: [] }, length: 3 } Opened { job: 0, instance: 1 } HandedOut { job: 3, activity: 0, attempt: 0 } Opened { job: 1, instance: 2 } HandedOut { job: 4, activity: 0, attempt: 0 } Recalled { count: 2 } HandedOut { job: 3, activity: 0, attempt: 0 } HandedOut { job: 4, activity: 0, attempt: 0 } Accepted { job: 4, activity: 0, attempt: 0, right: true } Ended { instance: 2 } Opened { job: 2, instance: 3 } Accepted { job: 3, activity: 0, attempt: 0, right: true } Ended { instance: 1 } HandedOut { job: 5, activity: 0, attempt: 0 } Accepted { job: 5, activity: 0, attempt: 0, right: true } Ended { instance: 3 } Ended { instance: 0 } ",
     ),
+];
+
+static INSTANCES: [(Worked, &str, &str); 4] = [
     // A job whose services failed is idle until its instance is opened, with the place that it has; it
     // waits while a job before it has a try on offer.
     (
@@ -235,6 +251,9 @@ static CASES: [(Worked, &str, &str); 31] = [
         "move move move move move move move ask:2/0/0 ask:3/0/0 accept:0 move move move accept:1 rest",
         "Settled Settled Settled HandedOut(Ticket { job: 2, activity: 0, attempt: 0 }) Settled HandedOut(Ticket { job: 3, activity: 0, attempt: 0 }) Nothing Settled { good: false } Settled Settled Nothing Settled { good: true } ",
     ),
+];
+
+static INNER_FAULTS: [(Worked, &str, &str); 4] = [
     // A recall takes back what is out in an instance two flows deep, which stays open; a job's attempts
     // go on from there.
     (
@@ -261,6 +280,9 @@ static CASES: [(Worked, &str, &str); 31] = [
         "hand ask:0/0/0 accept:0 noted:q settle settle settle hand noted:p hand name:2 ask:2/0/0 accept:1 noted:q noted:p rest",
         "0/0/0 Settled { good: true } ; true true false 2/0/0 p[0] <x[0] ; 1/0/0 q[0] Settled { good: true } q[0] <x[0] ; p[0] <x[0] ; ",
     ),
+];
+
+static NOTED: [(Worked, &str, &str); 3] = [
     // A job that has failed is noted, and one that bounced, which leads through it.
     (
         FAILURES,
@@ -278,6 +300,9 @@ static CASES: [(Worked, &str, &str); 31] = [
         "noted:e hand ask:0/0/0 accept:0 noted:e rest",
         "; 0/0/0 Settled { good: true } e[] <x[] <y[] ; ",
     ),
+];
+
+static LISTS_AND_NODES: [(Worked, &str, &str); 2] = [
     // A nested job is noted once its instance has ended, and no job inside an instance is.
     (
         NESTED_TWO,
@@ -299,11 +324,60 @@ fn played(alloc: Global, document: &str, script: &str) -> Result<String, Fail> {
     Ok(said)
 }
 
-#[test]
-fn each_script_says_what_is_due(rt: HostRuntime) -> Result<(), Fail> {
-    for (worked, script, due) in &CASES {
-        let said = played(rt.alloc(), worked.document, script)?;
+/// Holds what each script says, and then the line, against what is due.
+fn say_what_is_due(
+    rt: &impl Abort,
+    alloc: Global,
+    cases: &[(Worked, &str, &str)],
+) -> Result<(), Fail> {
+    for (worked, script, due) in cases {
+        let said = played(alloc, worked.document, script)?;
         assert_eq!(rt; said.strip_suffix(worked.line), Some(*due), "{script}");
     }
     Ok(())
+}
+
+#[test]
+fn one_job_as_due(rt: HostRuntime) -> Result<(), Fail> {
+    say_what_is_due(&rt, rt.alloc(), &ONE_JOB)
+}
+
+#[test]
+fn two_steps_as_due(rt: HostRuntime) -> Result<(), Fail> {
+    say_what_is_due(&rt, rt.alloc(), &TWO_STEPS)
+}
+
+#[test]
+fn in_any_order_as_due(rt: HostRuntime) -> Result<(), Fail> {
+    say_what_is_due(&rt, rt.alloc(), &IN_ANY_ORDER)
+}
+
+#[test]
+fn with_a_fault_as_due(rt: HostRuntime) -> Result<(), Fail> {
+    say_what_is_due(&rt, rt.alloc(), &WITH_A_FAULT)
+}
+
+#[test]
+fn tries_as_due(rt: HostRuntime) -> Result<(), Fail> {
+    say_what_is_due(&rt, rt.alloc(), &TRIES)
+}
+
+#[test]
+fn instances_as_due(rt: HostRuntime) -> Result<(), Fail> {
+    say_what_is_due(&rt, rt.alloc(), &INSTANCES)
+}
+
+#[test]
+fn inner_faults_as_due(rt: HostRuntime) -> Result<(), Fail> {
+    say_what_is_due(&rt, rt.alloc(), &INNER_FAULTS)
+}
+
+#[test]
+fn noted_as_due(rt: HostRuntime) -> Result<(), Fail> {
+    say_what_is_due(&rt, rt.alloc(), &NOTED)
+}
+
+#[test]
+fn lists_and_nodes_as_due(rt: HostRuntime) -> Result<(), Fail> {
+    say_what_is_due(&rt, rt.alloc(), &LISTS_AND_NODES)
 }
