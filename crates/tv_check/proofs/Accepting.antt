@@ -1,11 +1,12 @@
 -- A document that the check accepts for some services is accepted where all are there, and then each pass says nothing.
-use Rattle.std.proofs.Common.{◌≡◌, ◌∙◌, refl, sym, ap, ℕ, List, [], ◌∷◌, ◌++◌, flat_map, Bool, true, not, None}
+use Rattle.std.proofs.Common.{◌≡◌, ◌∙◌, refl, sym, ap, ℕ, List, [], ◌∷◌, ◌++◌, flat_map, Bool, true, not, Option, Some, None}
+use Rattle.std.specs.List.{list_any}
 use Rattle.std.specs.Option.{is_none, option_map_or}
 use Rattle.tv_value.specs.Values.{Name}
-use Rattle.tv_value.specs.Activities.{Activity, service, nested}
+use Rattle.tv_value.specs.Activities.{Activity, Repeat, service, nested}
 use Rattle.tv_flow.specs.Flows.{Feed, Step, Flow, Document}
-use Rattle.tv_naming.specs.Faulty.{CheckComplaint, plainly, strategy_ports, no_such_port, no_such_flow, at_main, at_step, at_input, at_after, at_flow_output, first_of}
-use Rattle.tv_naming.specs.Naming.{complain_if, has_name, fits_ports, link_complaints, numbered, activity_complaints, step_naming, flow_naming, naming_complaints}
+use Rattle.tv_naming.specs.Faulty.{CheckComplaint, plainly, strategy_ports, no_such_port, no_such_flow, at_main, at_step, at_input, at_after, at_flow_output, first_of, no_such_service, loop_nested, at_loop, Where}
+use Rattle.tv_naming.specs.Naming.{complain_if, has_name, fits_ports, link_complaints, numbered, is_nested, activity_complaints, repeat_complaints, loop_complaints, step_naming, flow_naming, naming_complaints}
 use Rattle.tv_check.specs.Cycles.{cycle_complaints, nesting_complaints, link_cycle_complaints}
 use Rattle.tv_check.specs.Depthwise.{depth_complaints}
 use Rattle.tv_naming.specs.Inputs.{given_complaints}
@@ -34,23 +35,32 @@ flat-nil : {A B : Type 0} (f g : A → List B) → ((x : A) → f x ≡ [] → g
 flat-nil f g h [] e = refl
 flat-nil f g h (x ∷ xs) e = both-nil (g x) (flat_map g xs) (h x (left-nil (f x) (flat_map f xs) e)) (flat-nil f g h xs (right-nil (f x) (flat_map f xs) e))
 
--- in the third of four
-third-nil : {A : Type 0} (xs ys zs us ws : List A) → (zs ≡ [] → us ≡ []) → xs ++ ys ++ zs ++ ws ≡ [] → xs ++ ys ++ us ++ ws ≡ []
-third-nil xs ys zs us ws h e =
-    let e3 = left-nil (xs ++ ys ++ zs) ws e in
-    both-nil (xs ++ ys ++ us) ws (both-nil (xs ++ ys) us (left-nil (xs ++ ys) zs e3) (h (right-nil (xs ++ ys) zs e3))) (right-nil (xs ++ ys ++ zs) ws e)
+-- in the third and the fourth of five
+middle-nil : {A : Type 0} (xs ys zs us vs ts ws : List A) → (zs ≡ [] → us ≡ []) → (vs ≡ [] → ts ≡ []) → xs ++ ys ++ zs ++ vs ++ ws ≡ [] → xs ++ ys ++ us ++ ts ++ ws ≡ []
+middle-nil xs ys zs us vs ts ws h k e =
+    let e4 = left-nil (xs ++ ys ++ zs ++ vs) ws e in
+    let e3 = left-nil (xs ++ ys ++ zs) vs e4 in
+    both-nil (xs ++ ys ++ us ++ ts) ws
+    (both-nil (xs ++ ys ++ us) ts (both-nil (xs ++ ys) us (left-nil (xs ++ ys) zs e3) (h (right-nil (xs ++ ys) zs e3))) (k (right-nil (xs ++ ys ++ zs) vs e4)))
+    (right-nil (xs ++ ys ++ zs ++ vs) ws e)
 
 module _ (knows : Name → Bool) (d : Document) where
   activity-nil : (f s : Name) (a : ℕ × Activity) → activity_complaints knows d f s a ≡ [] → activity_complaints (λ n. true) d f s a ≡ []
   activity-nil f s (k, service n) e = refl
   activity-nil f s (k, nested g) e = e
 
+  loop-nil : (w : Where) (acts : List Activity) (o : Option Repeat) → option_map_or (repeat_complaints knows d w acts) o [] ≡ [] → option_map_or (repeat_complaints (λ n. true) d w acts) o [] ≡ []
+  loop-nil w acts None e = refl
+  loop-nil w acts (Some r) e = right-nil (complain_if (not (knows r.service)) (plainly no_such_service w)) (complain_if (list_any is_nested acts) (plainly loop_nested w)) e
+
   step-nil : (f : Name) (flow : Flow) (s : Name × Step) → step_naming knows d f flow s ≡ [] → step_naming (λ n. true) d f flow s ≡ []
   step-nil f flow (n, s) e =
-      third-nil (flat_map (λ i. link_complaints flow (at_input f n i.0) i.1.from) s.inputs) (option_map_or (λ t. complain_if (not (fits_ports s t)) (plainly strategy_ports (at_step f n))) s.strategy [])
+      middle-nil (flat_map (λ i. link_complaints flow (at_input f n i.0) i.1.from) s.inputs) (option_map_or (λ t. complain_if (not (fits_ports s t)) (plainly strategy_ports (at_step f n))) s.strategy [])
       (flat_map (activity_complaints knows d f n) (numbered 0 s.activities)) (flat_map (activity_complaints (λ m. true) d f n) (numbered 0 s.activities))
+      (loop_complaints knows d f (n, s)) (loop_complaints (λ m. true) d f (n, s))
       (flat_map (λ a. complain_if (not (has_name flow.steps a.1)) (plainly no_such_port (at_after f n a.0))) (numbered 0 s.after))
-      (flat-nil (activity_complaints knows d f n) (activity_complaints (λ m. true) d f n) (activity-nil f n) (numbered 0 s.activities)) e
+      (flat-nil (activity_complaints knows d f n) (activity_complaints (λ m. true) d f n) (activity-nil f n) (numbered 0 s.activities))
+      (loop-nil (at_loop f n) s.activities s.repeat) e
 
   flow-nil : (f : Name × Flow) → flow_naming knows d f ≡ [] → flow_naming (λ n. true) d f ≡ []
   flow-nil (f, flow) e =

@@ -22,10 +22,10 @@ use Rattle.tv_check.specs.Measured.{IsReady, step_opens}
 use Rattle.tv_check.specs.declared.measured.Measured.{Measured}
 use Rattle.tv_strategy.specs.Measures.{strategy_depth, first_difference}
 use Rattle.tv_model.specs.instance.Steps.{strategy_of}
-use Rattle.tv_naming.specs.Faulty.{CheckComplaint, Where, at_step, at_input, at_output, at_flow_output}
+use Rattle.tv_naming.specs.Faulty.{CheckComplaint, Where, at_step, at_input, at_output, at_loop, at_flow_output}
 use Rattle.tv_naming.specs.Naming.{numbered}
 use Rattle.tv_model.specs.instance.CheckedDepths.{StepDepths, link_depth, merged_depth, feed_depth, port_depth, step_depths, steps_depths, flow_depths, measured_outputs}
-use Rattle.tv_check.specs.Depthwise.{past_limit, fed_complaints, nested_complaints, dot_complaints, merge_difference, step_complaints, steps_complaints, flow_complaints}
+use Rattle.tv_check.specs.Depthwise.{past_limit, fed_complaints, nested_complaints, node_complaints, loop_complaints, merge_difference, step_complaints, steps_complaints, flow_complaints}
 use Rattle.tv_check.specs.Tables.{with_level, known_steps, IsTable, IsSound, IsMeasured, is_level, level_most, has_fitting, table_depth, Agree, AreAt}
 use Rattle.tv_naming.specs.Told.{StopsAt}
 use Rattle.tv_naming.specs.declared.faults.CheckRefused.{CheckRefused}
@@ -67,7 +67,7 @@ module _ (given : List (Name × ℕ)) (made table : List StepDepths) (same : Agr
   pub step-agree : (d : Document) (f : Name) (s : Name × Step) → step_complaints d f given made s ≡ step_complaints d f given table s
   step-agree d f (n, s) =
       let parts : (Where → Feed → List CheckComplaint) → (Name → ℕ) → List CheckComplaint =
-      λ fed ports. flat_map (λ i. fed (at_input f n i.0) i.1.from) s.inputs ++ dot_complaints (at_step f n) (first_difference ports (strategy_of s)) ++ flat_map (λ o. past_limit (at_output f n o.0) (o.1 + strategy_depth ports (strategy_of s))) s.outputs ++ flat_map (nested_complaints d f n s) (numbered 0 s.activities)
+      λ fed ports. flat_map (λ i. fed (at_input f n i.0) i.1.from) s.inputs ++ node_complaints (at_step f n) (first_difference ports (strategy_of s)) ++ flat_map (λ o. past_limit (at_output f n o.0) (o.1 + strategy_depth ports (strategy_of s))) s.outputs ++ flat_map (nested_complaints d f n s) (numbered 0 s.activities) ++ loop_complaints (at_loop f n) s
       in
       ap (λ fed. parts fed (port_depth given made s)) (fun_ext (λ w. fun_ext (fed-agree w))) ∙ ap (parts (fed_complaints given table)) (port-agree s)
 

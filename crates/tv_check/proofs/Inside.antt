@@ -80,7 +80,7 @@ module _ (knows : Name → Bool) (d : Document) where
   step-inside : (f : Name) (flow : Flow) (x : Name × Step) → step_naming knows d f flow x ≡ [] → IsInside flow x.1
   step-inside f flow x e =
       let p = append-none _ _ e in
-      let q = append-none _ _ p.0 in
+      let q = append-none _ _ (append-none _ _ p.0).0 in
       let r = append-none _ _ q.0 in
       record {
         earlier =

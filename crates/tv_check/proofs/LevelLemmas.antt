@@ -11,7 +11,7 @@ use Rattle.std.specs.List.{list_all}
 use Rattle.std.specs.Option.{option_map_or}
 use Rattle.tv_value.specs.Values.{Name}
 use Rattle.tv_value.specs.Orders.{same_name, named}
-use Rattle.tv_value.specs.Strategies.{Strategy, port, cross, dot, Strategies, no_strategies, strategy}
+use Rattle.tv_value.specs.Strategies.{Strategy, port, cross, dot, prefix, Strategies, no_strategies, strategy}
 use Rattle.tv_flow.specs.Flows.{Feed, StepInput, Step, Flow}
 use Rattle.tv_flow.specs.Formed.{is_ascending, is_between, is_tree, are_trees, is_given_tree, is_step_input, strategy_count}
 use Rattle.tv_flow.specs.Views.{each}
@@ -20,7 +20,7 @@ use Rattle.tv_strategy.specs.Conditions.{Suits, number_of, times, EachOnce, Dots
 use Rattle.tv_model.specs.instance.CheckedDepths.{port_depth}
 use Rattle.tv_naming.specs.Faulty.{Where, CheckComplaint, too_deep, with_numbers}
 use Rattle.tv_naming.specs.Naming.{are_the_same, fits_ports, complain_if}
-use Rattle.tv_check.specs.Depthwise.{depth_most, past_limit, feed_depths, fed_complaints, dot_complaints}
+use Rattle.tv_check.specs.Depthwise.{depth_most, past_limit, feed_depths, fed_complaints, node_complaints}
 use Rattle.tv_model.specs.instance.Steps.{ports_of, strategy_of}
 use Rattle.tv_naming.specs.declared.faults.CheckRefused.{CheckRefused}
 use Rattle.tv_naming.specs.Told.{IsToldOf}
@@ -65,6 +65,7 @@ module _ (f : Name → ℕ) (small : (p : Name) → f p ≤ 32) where
     strategy-small (port p) = omega (arith, small p)
     strategy-small (cross ss) = sum-small ss
     strategy-small (dot ss) = first-small ss
+    strategy-small (prefix l r) = omega (arith, strategy-small r, length-append (leaf_names l) (leaf_names r))
 
     sum-small : (ss : Strategies) → sum_of_depths f ss ≤ 32 * length (all_leaf_names ss)
     sum-small no_strategies = omega arith
@@ -120,6 +121,7 @@ mutual
   filled : (s : Strategy) → is_tree s ≡ true → DotsAreFilled s
   filled (port p) h = tt
   filled (cross ss) h = all-filled ss (and_parts _ _ h).1
+  filled (prefix l r) h = let t = and_parts (is_tree l) (is_tree r) h in (filled l t.0, filled r t.1)
   filled (dot no_strategies) h = cc
   filled (dot (strategy s ss)) h = let t = and_parts _ _ (and_parts (is_between 1 16 (strategy_count (strategy s ss))) _ h).1 in (filled s t.0, all-filled ss t.1)
 
@@ -203,7 +205,7 @@ module _ (f : Flow) (ls : List (Option ℕ)) where
       fitting = subst (λ o. option_map_or (fits_ports s) o true ≡ true) given sound.fitting
 
       tree : is_tree t ≡ true
-      tree = subst (λ o. is_given_tree o ≡ true) given (and_parts _ _ (and_parts _ _ (and_parts _ _ (and_parts _ _ (and_parts _ _ sound.formed).0).0).0).0).1
+      tree = subst (λ o. is_given_tree o ≡ true) given (and_parts _ _ (and_parts _ _ (and_parts _ _ (and_parts _ _ (and_parts _ _ (and_parts _ _ sound.formed).0).0).0).0).0).1
 
       pub given-suits : Suits (each (table_mismatch f ls) s.inputs) t
       given-suits = suits (table_mismatch f ls) (table_depth f ls) below s.inputs few-inputs fed t fitting tree
@@ -211,8 +213,8 @@ module _ (f : Flow) (ls : List (Option ℕ)) where
       given-is : t ≡ strategy_of s
       given-is = sym (ap (λ o. unwrap_or o (cross (ports_of s.inputs))) given)
 
-      pub given-told : {A : Type 0} (w : Where) (r : Result A CheckRefused) → IsToldOf (dot_complaints w (first_difference mismatch t)) r → IsToldOf (dot_complaints w (first_difference ports (strategy_of s))) r
-      given-told w r h = subst (λ m. IsToldOf (dot_complaints w (first_difference m (strategy_of s))) r) port-is (subst (λ u. IsToldOf (dot_complaints w (first_difference mismatch u)) r) given-is h)
+      pub given-told : {A : Type 0} (w : Where) (r : Result A CheckRefused) → IsToldOf (node_complaints w (first_difference mismatch t)) r → IsToldOf (node_complaints w (first_difference ports (strategy_of s))) r
+      given-told w r h = subst (λ m. IsToldOf (node_complaints w (first_difference m (strategy_of s))) r) port-is (subst (λ u. IsToldOf (node_complaints w (first_difference mismatch u)) r) given-is h)
 
       pub given-level : strategy_depth mismatch t ≡ strategy_depth ports (strategy_of s)
       given-level = ap (strategy_depth mismatch) given-is ∙ ap (λ m. strategy_depth m (strategy_of s)) port-is
@@ -224,8 +226,8 @@ module _ (f : Flow) (ls : List (Option ℕ)) where
       cross-is : cross (ports_of s.inputs) ≡ strategy_of s
       cross-is = sym (ap (λ o. unwrap_or o (cross (ports_of s.inputs))) none-given)
 
-      pub cross-told : (w : Where) → dot_complaints w (first_difference ports (strategy_of s)) ≡ []
-      cross-told w = ap (λ t. dot_complaints w (first_difference ports t)) (sym cross-is) ∙ ap (dot_complaints w) (no-dots ports s.inputs)
+      pub cross-told : (w : Where) → node_complaints w (first_difference ports (strategy_of s)) ≡ []
+      cross-told w = ap (λ t. node_complaints w (first_difference ports t)) (sym cross-is) ∙ ap (node_complaints w) (no-dots ports s.inputs)
 
       pub cross-level : strategy_depth mismatch (cross (ports_of s.inputs)) ≡ strategy_depth ports (strategy_of s)
       cross-level = ap (strategy_depth mismatch) cross-is ∙ ap (λ m. strategy_depth m (strategy_of s)) port-is

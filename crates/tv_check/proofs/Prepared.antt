@@ -75,7 +75,7 @@ fits s c (Some t) e = cases (fits_ports s t) e
 
 module _ (knows : Name → Bool) (d : Document) where
   step-fits : (f : Name) (flow : Flow) (x : Name × Step) → step_naming knows d f flow x ≡ [] → has_fitting x.1 ≡ true
-  step-fits f flow x e = fits x.1 (plainly strategy_ports (at_step f x.0)) x.1.strategy (append-none _ _ (append-none _ _ (append-none _ _ e).0).0).1
+  step-fits f flow x e = fits x.1 (plainly strategy_ports (at_step f x.0)) x.1.strategy (append-none _ _ (append-none _ _ (append-none _ _ (append-none _ _ e).0).0).0).1
 
   flow-fits : (f : Name × Flow) → flow_naming knows d f ≡ [] → list_all (λ s. has_fitting s.1) f.1.steps ≡ true
   flow-fits f e = each-all (λ s. has_fitting s.1) f.1.steps (each-by (λ x. step_naming knows d f.0 f.1 x ≡ []) (λ s. has_fitting s.1 ≡ true) f.1.steps (step-fits f.0 f.1) (nil-each (step_naming knows d f.0 f.1) f.1.steps (append-none _ _ e).0))

@@ -1,12 +1,12 @@
 -- Codes of documents and plans, by which equal ones are equal in one way: each of them as tuples and lists of others.
 use Rattle.std.specs.Prelude.{◌≡◌, ◌⊎◌, ℕ, zero, suc, List, [], ◌∷◌, Bool, true, false, Option, refl}
-use Rattle.std.specs.Coded.{Coded, code_by, coded×, coded⊎, coded_ℕ, coded_bool, coded_list, coded_option}
+use Rattle.std.specs.Coded.{Coded, code_by, coded×, coded⊎, coded_ℕ, coded_list, coded_option}
 use Rattle.std.proofs.Common.{◌∙◌, ap, inl, inr}
 use base.Stored.{coded_unit}
 use Rattle.tv_value.specs.Nested.{Tree, leaf, list, Trees, no_trees, tree, count}
 use Rattle.tv_value.specs.Values.{Name, ErrorDoc, JobName, Text, Scalar, text, fault, Value}
-use Rattle.tv_value.specs.Strategies.{Strategy, port, cross, dot, Strategies, no_strategies, strategy}
-use Rattle.tv_value.specs.Activities.{Activity, service, nested}
+use Rattle.tv_value.specs.Strategies.{Strategy, port, cross, dot, prefix, Strategies, no_strategies, strategy}
+use Rattle.tv_value.specs.Activities.{Activity, Repeat, service, nested}
 use Rattle.tv_flow.specs.Flows.{Link, input, output, Feed, link, merge, constant, StepInput, Step, Flow}
 use Rattle.tv_check.specs.WireCodes.{coded_wiring}
 use Rattle.tv_check.specs.declared.wiring.Wiring.{Wiring}
@@ -131,25 +131,33 @@ abbrev pub coded_value : Coded Value
 coded_value = coded_tree coded_unit (code_by (Text ⊎ ErrorDoc)
     (coded⊎ coded_name coded_error) of_scalar to_scalar to-of_scalar)
 
--- ---- strategies, as trees whose lists are crosses or dots
+-- ---- strategies, as trees whose lists are crosses, dots or the two of a prefix node
 
 abbrev mutual
-  pub of_strategy : Strategy → Tree Bool Name
-  of_strategy (port p) = leaf true p
-  of_strategy (cross ss) = list true (of_strategies ss)
-  of_strategy (dot ss) = list false (of_strategies ss)
+  pub of_strategy : Strategy → Tree ℕ Name
+  of_strategy (port p) = leaf 0 p
+  of_strategy (cross ss) = list 0 (of_strategies ss)
+  of_strategy (dot ss) = list 1 (of_strategies ss)
+  of_strategy (prefix l r) = list 2 (tree (of_strategy l) (tree (of_strategy r) no_trees))
 
-  pub of_strategies : Strategies → Trees Bool Name
+  pub of_strategies : Strategies → Trees ℕ Name
   of_strategies no_strategies = no_trees
   of_strategies (strategy s ss) = tree (of_strategy s) (of_strategies ss)
 
-abbrev mutual
-  pub to_strategy : Tree Bool Name → Strategy
-  to_strategy (leaf b p) = port p
-  to_strategy (list true ts) = cross (to_strategies ts)
-  to_strategy (list false ts) = dot (to_strategies ts)
+-- lists of other lengths stand for no strategy
+abbrev pub to_prefix : Strategies → Strategy
+to_prefix no_strategies = cross no_strategies
+to_prefix (strategy l no_strategies) = l
+to_prefix (strategy l (strategy r ss)) = prefix l r
 
-  pub to_strategies : Trees Bool Name → Strategies
+abbrev mutual
+  pub to_strategy : Tree ℕ Name → Strategy
+  to_strategy (leaf k p) = port p
+  to_strategy (list zero ts) = cross (to_strategies ts)
+  to_strategy (list (suc zero) ts) = dot (to_strategies ts)
+  to_strategy (list (suc (suc k)) ts) = to_prefix (to_strategies ts)
+
+  pub to_strategies : Trees ℕ Name → Strategies
   to_strategies no_trees = no_strategies
   to_strategies (tree t ts) = strategy (to_strategy t) (to_strategies ts)
 
@@ -158,6 +166,8 @@ mutual
   to-of_strategy (port p) = refl
   to-of_strategy (cross ss) = ap cross (to-of_strategies ss)
   to-of_strategy (dot ss) = ap dot (to-of_strategies ss)
+  to-of_strategy (prefix l r) = ap (λ s. prefix s (to_strategy (of_strategy r)))
+      (to-of_strategy l) ∙ ap (prefix l) (to-of_strategy r)
 
   pub to-of_strategies : (ss : Strategies) → to_strategies (of_strategies ss) ≡ ss
   to-of_strategies no_strategies = refl
@@ -165,8 +175,8 @@ mutual
       (to-of_strategy s) ∙ ap (strategy s) (to-of_strategies ss)
 
 abbrev pub coded_strategy : Coded Strategy
-coded_strategy = code_by (Tree Bool Name)
-    (coded_tree coded_bool coded_name) of_strategy to_strategy to-of_strategy
+coded_strategy = code_by (Tree ℕ Name)
+    (coded_tree coded_ℕ coded_name) of_strategy to_strategy to-of_strategy
 
 -- ---- documents
 
@@ -225,16 +235,41 @@ abbrev pub coded_activity : Coded Activity
 coded_activity = code_by (Name ⊎ Name)
     (coded⊎ coded_name coded_name) of_activity to_activity to-of_activity
 
+abbrev pub coded_repeat : Coded Repeat
+coded_repeat = code_by (Name × (Text × ℕ)) (coded× coded_name (coded× coded_name coded_ℕ))
+    (λ r. (r.service, (r.until, r.most)))
+    (λ p. record { service = p.0; until = p.1.0; most = p.1.1 }) (λ _. refl)
+
 abbrev pub coded_step : Coded Step
 coded_step =
     code_by (List (Name × StepInput)
-    × (List (Name × ℕ) × (Option Strategy × (List Activity × (ℕ × (ℕ × List Name))))))
+    × (List (Name × ℕ) × (Option Strategy × (List Activity × (ℕ × (ℕ
+    × (List Name × Option Repeat)))))))
     (coded× (coded_named coded_step_input)
     (coded× (coded_named coded_ℕ)
     (coded× (coded_option coded_strategy)
     (coded× (coded_list coded_activity)
-    (coded× coded_ℕ (coded× coded_ℕ (coded_list coded_name)))))))
-    (λ s. (s.inputs, (s.outputs, (s.strategy, (s.activities, (s.retries, (s.jobs, s.after)))))))
+    (coded× coded_ℕ (coded× coded_ℕ (coded× (coded_list coded_name)
+    (coded_option coded_repeat))))))))
+    (λ s. (
+      s.inputs,
+      (
+        s.outputs,
+        (
+          s.strategy,
+          (
+            s.activities,
+            (
+              s.retries,
+              (
+                s.jobs,
+                (s.after, s.repeat),
+              ),
+            ),
+          ),
+        ),
+      ),
+    ))
     (λ p. record {
       inputs = p.0;
       outputs = p.1.0;
@@ -242,7 +277,8 @@ coded_step =
       activities = p.1.1.1.0;
       retries = p.1.1.1.1.0;
       jobs = p.1.1.1.1.1.0;
-      after = p.1.1.1.1.1.1;
+      after = p.1.1.1.1.1.1.0;
+      repeat = p.1.1.1.1.1.1.1;
     })
     (λ _. refl)
 

@@ -1,15 +1,15 @@
--- Depths that don't fit: of the links of a merge, of a dot's children, of nested ports, and those past the limit.
-use Rattle.std.specs.Prelude.{ℕ, ◌+◌, List, [], ◌∷◌, ◌++◌, map, length, Bool, not, ◌&&◌, ◌==◌, nat_lt, Option, Some, None, false, true, find, filter, flat_map}
+-- Depths that don't fit: of the links of a merge, of the children of a dot or prefix node, of nested ports, of a loop, and those past the limit.
+use Rattle.std.specs.Prelude.{ℕ, ◌+◌, List, [], ◌∷◌, ◌++◌, map, length, Bool, not, ◌&&◌, ◌==◌, nat_lt, if◌then◌else◌, Option, Some, None, false, true, find, filter, flat_map}
 use Rattle.std.specs.Option.{option_map_or}
 use Rattle.tv_value.specs.Values.{Name}
 use Rattle.tv_value.specs.Orders.{same_name, named}
 use Rattle.tv_value.specs.Activities.{Activity, service, nested}
-use Rattle.tv_flow.specs.Flows.{Feed, link, merge, constant, Step, Flow, Document}
+use Rattle.tv_flow.specs.Flows.{Feed, link, merge, constant, StepInput, Step, Flow, Document}
 use Rattle.tv_strategy.specs.Measures.{strategy_depth, Difference, first_difference}
 use Rattle.tv_model.specs.instance.Ranks.{ranked}
 use Rattle.tv_model.specs.instance.Steps.{strategy_of}
 use Rattle.tv_model.specs.instance.CheckedDepths.{StepDepths, link_depth, feed_depth, port_depth, step_depths, flow_depths, measured_outputs}
-use Rattle.tv_naming.specs.Faulty.{merge_depths, dot_depths, nested_ports, too_deep, Where, at_step, at_input, at_output, at_activity, at_flow_output, CheckComplaint, plainly, with_numbers}
+use Rattle.tv_naming.specs.Faulty.{merge_depths, dot_depths, prefix_depths, loop_depths, nested_ports, too_deep, Where, at_step, at_input, at_output, at_activity, at_loop, at_flow_output, CheckComplaint, plainly, with_numbers}
 use Rattle.tv_naming.specs.Naming.{complain_if, numbered}
 use Rattle.tv_check.specs.Cycles.{nesting}
 
@@ -55,9 +55,19 @@ nested_complaints d f n s (k, nested g) = complain_if
     (not (option_map_or (fits_flow s) (named g d.flows) false))
     (plainly nested_ports (at_activity f n k))
 
-abbrev pub dot_complaints : Where → Option Difference → List CheckComplaint
-dot_complaints w None = []
-dot_complaints w (Some e) = with_numbers dot_depths w e.first e.second ∷ []
+abbrev pub node_complaints : Where → Option Difference → List CheckComplaint
+node_complaints w None = []
+node_complaints w (Some e) = with_numbers (if e.prefixed then prefix_depths else dot_depths) w e.first e.second ∷ []
+
+-- an input that is an output too, with another depth
+abbrev pub round_complaints : Where → List (Name × ℕ) → Name × StepInput → List CheckComplaint
+round_complaints w outputs i = option_map_or (λ e. complain_if (not (i.1.depth == e))
+    (with_numbers loop_depths w i.1.depth e)) (named i.0 outputs) []
+
+-- in a step with a loop, whose outputs are the next round's inputs
+abbrev pub loop_complaints : Where → Step → List CheckComplaint
+loop_complaints w s = option_map_or (λ r. flat_map (round_complaints w s.outputs) s.inputs) s.repeat
+    []
 
 -- a step, from the depths of the flow's inputs and of the steps so far
 abbrev pub step_complaints : Document → Name → List (Name × ℕ) → List StepDepths → Name × Step
@@ -66,9 +76,10 @@ step_complaints d f given so_far (n, s) =
     let mismatch = port_depth given so_far s in
     let levels = strategy_depth mismatch (strategy_of s) in
     flat_map (λ i. fed_complaints given so_far (at_input f n i.0) i.1.from) s.inputs
-    ++ dot_complaints (at_step f n) (first_difference mismatch (strategy_of s))
+    ++ node_complaints (at_step f n) (first_difference mismatch (strategy_of s))
     ++ flat_map (λ o. past_limit (at_output f n o.0) (o.1 + levels)) s.outputs
     ++ flat_map (nested_complaints d f n s) (numbered 0 s.activities)
+    ++ loop_complaints (at_loop f n) s
 
 -- the steps by rank
 abbrev pub steps_complaints : Document → Name → List (Name × ℕ) → List StepDepths

@@ -12,7 +12,7 @@ use Rattle.tv_model.specs.instance.Steps.{strategy_of}
 use Rattle.tv_model.specs.instance.CheckedDepths.{StepDepths, feed_depth, port_depth, flow_depths, measured_outputs}
 use Rattle.tv_naming.specs.Faulty.{at_step, at_input, at_output, CheckComplaint}
 use Rattle.tv_naming.specs.Naming.{fits_ports}
-use Rattle.tv_check.specs.Depthwise.{depth_most, past_limit, fed_complaints, dot_complaints}
+use Rattle.tv_check.specs.Depthwise.{depth_most, past_limit, fed_complaints, node_complaints}
 
 -- a step whose strategy has this depth
 abbrev pub with_level : Name × Step → ℕ → StepDepths
@@ -71,7 +71,7 @@ ports_complaints f given so_far (n, s) =
     let mismatch = port_depth given so_far s in
     let levels = strategy_depth mismatch (strategy_of s) in
     flat_map (λ i. fed_complaints given so_far (at_input f n i.0) i.1.from) s.inputs
-    ++ dot_complaints (at_step f n) (first_difference mismatch (strategy_of s))
+    ++ node_complaints (at_step f n) (first_difference mismatch (strategy_of s))
     ++ flat_map (λ o. past_limit (at_output f n o.0) (o.1 + levels)) s.outputs
 
 -- the depth of a port of outputs that are known, where they are

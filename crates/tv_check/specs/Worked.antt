@@ -2,11 +2,11 @@
 use Rattle.std.specs.Prelude.{◌≡◌, ℕ, List, [], ◌∷◌, codes, Bool, Option, Some, None}
 use Rattle.tv_value.specs.Nested.{tree, no_trees}
 use Rattle.tv_value.specs.Values.{Name, Value, text_value, list_value}
-use Rattle.tv_value.specs.Strategies.{Strategy, port, dot, strategy, no_strategies}
-use Rattle.tv_value.specs.Activities.{Activity, service, nested}
+use Rattle.tv_value.specs.Strategies.{Strategy, port, dot, prefix, strategy, no_strategies}
+use Rattle.tv_value.specs.Activities.{Activity, Repeat, service, nested}
 use Rattle.tv_flow.specs.Flows.{input, output, Feed, link, merge, StepInput, Step, Flow, Document}
 use Rattle.tv_model.specs.instance.Ranks.{is_among}
-use Rattle.tv_naming.specs.Faulty.{no_such_port, no_such_service, no_such_flow, flow_cycle, link_cycle, strategy_ports, dot_depths, merge_depths, nested_ports, too_deep, input_missing, input_unknown, input_depth, at_main, at_flow, at_step, at_input, at_output, at_activity, at_after, at_flow_output, at_given, plainly, with_numbers}
+use Rattle.tv_naming.specs.Faulty.{no_such_port, no_such_service, no_such_flow, flow_cycle, link_cycle, strategy_ports, dot_depths, merge_depths, nested_ports, too_deep, input_missing, input_unknown, input_depth, loop_nested, loop_depths, prefix_depths, at_main, at_flow, at_step, at_input, at_output, at_activity, at_after, at_loop, at_flow_output, at_given, plainly, with_numbers}
 use Rattle.tv_check.specs.Passes.{checked}
 
 abbrev pub is_known_service : Name → Bool
@@ -36,6 +36,7 @@ step_of inputs depth activity =
       retries = 0;
       jobs = 1;
       after = [];
+      repeat = None;
     }
 
 -- a document of one flow m, whose output is that of the step named last
@@ -87,6 +88,61 @@ TellsDotDepths =
     ((codes "c", concat_of (Some dot_of_a_b)) ∷ []) (codes "c")
     ((codes "x", a_list) ∷ (codes "y", a_text) ∷ []))
     ≡ Some (with_numbers dot_depths (at_step (codes "m") (codes "c")) 1 0)
+
+-- the left of a prefix node iterates two levels, its right one
+abbrev pub TellsPrefixDepths : Type 0
+TellsPrefixDepths =
+    checked is_known_service
+    (one_flow ((codes "x", 2) ∷ (codes "y", 1) ∷ [])
+    ((codes "c", concat_of (Some (prefix (port (codes "a")) (port (codes "b"))))) ∷ []) (codes "c")
+    ((codes "x", list_value (tree a_list no_trees)) ∷ (codes "y", a_list) ∷ []))
+    ≡ Some (with_numbers prefix_depths (at_step (codes "m") (codes "c")) 2 1)
+
+abbrev pub until_done : Name → Option Repeat
+until_done s = Some (record { service = s; until = codes "done"; most = 10 })
+
+-- an input of depth 0 whose output for the next round has depth 1
+abbrev pub TellsLoopDepths : Type 0
+TellsLoopDepths =
+    checked is_known_service
+    (one_flow ((codes "x", 0) ∷ [])
+    ((
+      codes "l",
+      record (step_of ((codes "o", fed 0 from_x) ∷ []) 1 (service (codes "upper"))) {
+        repeat = until_done (codes "echo");
+      },
+    ) ∷ [])
+    (codes "l") ((codes "x", a_text) ∷ []))
+    ≡ Some (with_numbers loop_depths (at_loop (codes "m") (codes "l")) 0 1)
+
+-- a condition that isn't known comes before a nested flow beside the loop
+abbrev pub TellsCondition : Type 0
+TellsCondition =
+    checked is_known_service
+    (one_flow ((codes "x", 0) ∷ [])
+    ((
+      codes "l",
+      record (step_of ((codes "a", fed 0 from_x) ∷ []) 0 (nested (codes "m"))) {
+        repeat = until_done (codes "none");
+      },
+    ) ∷ [])
+    (codes "l") ((codes "x", a_text) ∷ []))
+    ≡ Some (plainly no_such_service (at_loop (codes "m") (codes "l")))
+
+-- a nested flow beside a loop comes before a step to run after that isn't there, and before the cycle of flows
+abbrev pub TellsLoopNested : Type 0
+TellsLoopNested =
+    checked is_known_service
+    (one_flow ((codes "x", 0) ∷ [])
+    ((
+      codes "l",
+      record (step_of ((codes "a", fed 0 from_x) ∷ []) 0 (nested (codes "m"))) {
+        after = codes "z" ∷ [];
+        repeat = until_done (codes "echo");
+      },
+    ) ∷ [])
+    (codes "l") ((codes "x", a_text) ∷ []))
+    ≡ Some (plainly loop_nested (at_loop (codes "m") (codes "l")))
 
 -- the links of a merge deliver depths 0 and 1
 abbrev pub TellsMergeDepths : Type 0

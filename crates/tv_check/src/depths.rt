@@ -15,6 +15,7 @@ ghost use Rattle.tv_naming.specs.Told.{IsToldOf};
 
 use crate::delivered::{fed, feed_depth};
 use crate::levels::ports_level;
+use crate::loops::rounds_fit;
 use crate::measured::Measured;
 use crate::nested::activities_fit;
 use std::alloc::Global;
@@ -176,6 +177,7 @@ fn step_level(
 {
     let level = ports_level(alloc, name, flow, levels, &step.0, &step.1)?;
     activities_fit(alloc, document, measured, name, &step.0, &step.1)?;
+    rounds_fit(alloc, name, &step.0, &step.1)?;
     Ok(level)
 }
 

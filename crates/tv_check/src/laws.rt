@@ -2,7 +2,8 @@
 ghost use Rattle.tv_check.specs.RankLaws.{AllAreRanked, NoneIsRankedOnCycles, NamesAreInside};
 ghost use Rattle.tv_check.specs.Worked.{AcceptsCross, AcceptsNested, TellsNoMain, TellsLinksFirst, TellsStrategyPorts, TellsNamesFirst, TellsAfter, TellsFlowOutput};
 ghost use Rattle.tv_check.specs.Worked.{TellsFlowCycle, TellsDeepNesting, TellsLinkCycle, TellsSelfLink};
-ghost use Rattle.tv_check.specs.Worked.{TellsMergeDepths, TellsDeepMerge, TellsDotDepths, TellsDeepOutput, TellsNestedPorts};
+ghost use Rattle.tv_check.specs.Worked.{TellsMergeDepths, TellsDeepMerge, TellsDotDepths, TellsPrefixDepths, TellsDeepOutput, TellsNestedPorts};
+ghost use Rattle.tv_check.specs.Worked.{TellsLoopDepths, TellsCondition, TellsLoopNested};
 ghost use Rattle.tv_check.specs.Worked.{TellsMissingFirst, TellsUnknownInput, TellsInputDepth};
 
 /// Documents that are accepted.
@@ -34,8 +35,16 @@ pub fn depths()
     ensures merge { TellsMergeDepths }
     ensures deep_merge { TellsDeepMerge }
     ensures dot { TellsDotDepths }
+    ensures prefix { TellsPrefixDepths }
     ensures deep_output { TellsDeepOutput }
     ensures nested { TellsNestedPorts }
+{}
+
+/// Loops: conditions that aren't known, nested flows beside them, and outputs that can't be inputs of the next round.
+pub fn loops()
+    ensures condition { TellsCondition }
+    ensures nested { TellsLoopNested }
+    ensures depths { TellsLoopDepths }
 {}
 
 /// The values that the main flow is given.

@@ -30,7 +30,21 @@ pub(crate) fn push_leaves<'a>(tree: &'a Tree, leaves: &mut Vec<&'a Name>) -> Res
         Tree::Leaf(name) => push_leaf(name, leaves),
         Tree::Cross(trees) => push_all_leaves(trees.as_slice(), leaves),
         Tree::Dot(trees) => push_all_leaves(trees.as_slice(), leaves),
+        Tree::Prefix(left, right) => push_both(left, right, leaves),
     }
+}
+
+#[cycle(push_leaves)]
+fn push_both<'a>(
+    left: &'a Tree,
+    right: &'a Tree,
+    leaves: &mut Vec<&'a Name>,
+) -> Result<(), NoMemory>
+    ensures { OnOk result (map (λ n. n.now) leaves.new.items ≡ map (λ n. n.now) leaves.old.items
+        ++ (leaf_names (strategy_view left.now) ++ leaf_names (strategy_view right.now))) }
+{
+    push_leaves(left, leaves)?;
+    push_leaves(right, leaves)
 }
 
 fn push_leaf<'a>(name: &'a Name, leaves: &mut Vec<&'a Name>) -> Result<(), NoMemory>

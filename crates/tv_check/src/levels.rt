@@ -1,5 +1,5 @@
 //! The depths of steps' strategies, and what is said of a step's ports.
-ghost use Rattle.std.specs.Prelude.{◌≡◌, ◌≤◌, ◌+◌, ◌<◌, ◌^◌, true, map, flat_map, IfOk};
+ghost use Rattle.std.specs.Prelude.{◌≡◌, ◌≤◌, ◌+◌, ◌<◌, ◌^◌, true, map, flat_map, IfOk, Some};
 ghost use Rattle.tv_value.specs.Strategies.{cross};
 ghost use Rattle.tv_value.specs.Views.{strategy_view};
 ghost use Rattle.tv_flow.specs.Formed.{is_depth, is_step_input, are_named};
@@ -7,18 +7,18 @@ ghost use Rattle.tv_flow.specs.Views.{each, flow_view, step_view, step_input_vie
 ghost use Rattle.tv_strategy.specs.Conditions.{Suits, number_of};
 ghost use Rattle.tv_strategy.specs.Measures.{strategy_depth, first_difference};
 ghost use Rattle.tv_model.specs.instance.CheckedDepths.{port_depth};
-ghost use Rattle.tv_check.specs.Depthwise.{past_limit, fed_complaints, dot_complaints};
+ghost use Rattle.tv_check.specs.Depthwise.{past_limit, fed_complaints, node_complaints};
 ghost use Rattle.tv_naming.specs.Faulty.{at_input, at_output};
 ghost use Rattle.tv_model.specs.instance.Steps.{strategy_of, ports_of};
 ghost use Rattle.tv_check.specs.Tables.{known_steps, IsTable, IsSound, level_most, table_mismatch, are_within, ports_complaints};
 ghost use Rattle.tv_naming.specs.AtViews.{at_view};
-ghost use Rattle.tv_naming.specs.Told.{IsToldOf};
+ghost use Rattle.tv_naming.specs.Told.{IsToldOf, StopsAt};
 
 use crate::delivered::{fed, feed_depth, within};
 use std::alloc::Global;
 use tv_flow::{Flow, Step, StepInputs};
 use tv_naming::{At, CheckKind, CheckRefused};
-use tv_strategy::depth_of;
+use tv_strategy::{DotFault, depth_of};
 use tv_value::{Copied, Depths, Name, NoMemory, Sequence, Tree};
 
 /// What is said of a step's input ports, its strategy and its output ports, in this order; else its strategy's depth.
@@ -85,7 +85,7 @@ fn step_level(
     requires step { IsSound (step_view step.now) }
     requires within { are_within (flow_view flow.now) levels.now (step_view step.now).inputs
         ≡ true }
-    ensures told { IsToldOf (dot_complaints (at_view at.entry)
+    ensures told { IsToldOf (node_complaints (at_view at.entry)
         (first_difference (port_depth (flow_view flow.now).inputs
         (known_steps (flow_view flow.now).steps
         levels.now) (step_view step.now)) (strategy_of (step_view step.now)))) result }
@@ -113,7 +113,7 @@ fn tree_level(
     requires table { IsTable (flow_view flow.now) levels.now }
     requires suits { Suits (each (table_mismatch (flow_view flow.now) levels.now)
         (each step_input_view inputs.now)) (strategy_view tree.now) }
-    ensures told { IsToldOf (dot_complaints (at_view at.entry)
+    ensures told { IsToldOf (node_complaints (at_view at.entry)
         (first_difference (number_of (each (table_mismatch (flow_view flow.now) levels.now)
         (each step_input_view inputs.now))) (strategy_view tree.now))) result }
     ensures level { IfOk result (λ k. k
@@ -123,8 +123,21 @@ fn tree_level(
     let mismatch = mismatches(alloc, flow, levels, inputs)?;
     match depth_of(tree, &mismatch) {
         Ok(level) => Ok(level),
-        Err(fault) => Err(at.refused(alloc, CheckKind::DotDepths, fault.first, fault.second)),
+        Err(fault) => Err(node_fault(alloc, at, fault)),
     }
+}
+
+/// The complaint about the children of a node.
+fn node_fault(alloc: Global, at: At<'_>, fault: DotFault) -> CheckRefused
+    ensures { StopsAt (node_complaints (at_view at.entry)
+        (Some (record { prefixed = fault.prefix; first = fault.first; second = fault.second }))) result }
+{
+    let kind = if fault.prefix {
+        CheckKind::PrefixDepths
+    } else {
+        CheckKind::DotDepths
+    };
+    at.refused(alloc, kind, fault.first, fault.second)
 }
 
 /// The levels that each input port iterates.

@@ -54,6 +54,7 @@ mod graphs;
 pub mod laws;
 mod leaves;
 mod levels;
+mod loops;
 mod measured;
 mod nested;
 mod orders;

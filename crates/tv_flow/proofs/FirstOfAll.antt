@@ -4,7 +4,8 @@ use Rattle.std.specs.declared.cmp.Ordering.{Ordering}
 use Rattle.std.specs.List.{list_any}
 use Rattle.std.specs.Ordering.{nat_cmp, match_ordering}
 use Rattle.std.specs.Cmp.Lexicographic.{slice_cmp}
-use Rattle.std.proofs.Common.{ap, sym, ◌∙◌, append_assoc, append-nil, Less, Equal, Greater}
+use Rattle.std.proofs.Common.{ap, sym, ◌∙◌, arith, append_assoc, append-nil, Less, Equal, Greater}
+use Rattle.std.proofs.lemmas.Bool.Decides.{nat_tests}
 use Rattle.std.proofs.lemmas.Bool.{true≢false}
 use Rattle.tv_value.specs.Activities.{service, nested}
 use Rattle.serde_json.specs.Data.{Data, Num, unsigned, negative, float, null, boolean, number, string, array, object, Items, no_items, item, Members, no_members, member}
@@ -15,14 +16,14 @@ use Rattle.tv_value.specs.DepthSets.{least_depth}
 use Rattle.tv_value.specs.Readings.{read, read_items, read_list, first_read, within, length_limit, item_count, not_text, ragged}
 use Rattle.tv_value.specs.Readings as reading
 use Rattle.tv_value.specs.Orders.{same_name, name_cmp, in_order}
-use Rattle.tv_value.specs.Strategies.{port, cross, dot, Strategies, strategy}
+use Rattle.tv_value.specs.Strategies.{Strategy, port, cross, dot, prefix, Strategies, strategy}
 use Rattle.tv_flow.specs.declared.faults.FormKind.{FormKind}
 use Rattle.tv_flow.specs.declared.faults.FormKind.TheVariants.{Missing, Unknown, BadName, OutOfRange, Empty, NotText, Ragged}
 use Rattle.tv_flow.specs.declared.faults.Part.TheVariants.{Index}
 use Rattle.tv_flow.specs.Complaints.{Path, Complaint, complaint, key, index, place, and_then}
 use Rattle.tv_flow.specs.Flows.{input, output, link, merge, constant}
-use Rattle.tv_flow.specs.Forms.{wanted, is_name, name_or_not, name_form, in_range, number_form, depth_form, unknown_key, none_unknown, fields_form, present, required, or_else, optional, counted, member_count, entries_form, named_form, items_form, array_form, of_reading, value_form, has, input_link, output_link, link_form, link_feed, merge_feed, constant_feed, is_link, feed_form, node_form, tree_form, children_form, trees_form, each_tree, service_activity, nested_activity, activity_form, step_input_form, names_form, given_tree, step_fields, step_form, flow_form, document_form}
-use Rattle.tv_flow.specs.Listed.{wrong, wrong_unless, all_wanted, all_name, all_range, all_number, all_depth, all_unknown, all_fields, all_present, all_required, all_given, all_optional, all_counted, all_entries, all_named, all_items, all_array, all_ragged, all_value, all_values, all_input_link, all_output_link, all_link, all_merge, all_constant, all_feed, all_node, all_tree, all_children, all_trees, each_all_tree, all_service, all_nested, all_activity, all_step_input, all_step, all_flow, all_document, first_of, complaint_of}
+use Rattle.tv_flow.specs.Forms.{wanted, is_name, name_or_not, name_form, in_range, number_form, depth_form, unknown_key, none_unknown, fields_form, present, required, or_else, optional, counted, member_count, entries_form, named_form, items_form, array_form, of_reading, value_form, has, input_link, output_link, link_form, link_feed, merge_feed, constant_feed, is_link, feed_form, is_second, in_second, node_form, tree_form, children_form, trees_form, each_tree, pair_form, prefix_form, two_trees, text_form, loop_form, given_loop, repeat_form, service_activity, nested_activity, activity_form, step_input_form, names_form, given_tree, step_fields, step_form, flow_form, document_form}
+use Rattle.tv_flow.specs.Listed.{wrong, wrong_unless, all_wanted, all_name, all_text, all_loop, all_repeat, format_or, format_of, all_range, all_number, all_depth, all_unknown, all_fields, all_present, all_required, all_given, all_optional, all_counted, all_entries, all_named, all_items, all_array, all_ragged, all_value, all_values, all_input_link, all_output_link, all_link, all_merge, all_constant, all_feed, all_node, all_tree, all_children, all_trees, each_all_tree, all_service, all_nested, all_activity, all_step_input, all_step, all_flow, all_document, first_of, complaint_of}
 
 -- what an answer complains of is the first of a list
 abbrev pub Leads : {A : Type 0} → Result A Complaint → List Complaint → Type 0
@@ -44,6 +45,15 @@ and-next o (x ∷ cs) ds e h = absurd (some-none x (sym e))
 one-then : {A B : Type 0} (r : Result A Complaint) (f : A → Result B Complaint) (cs ds : List Complaint) → Leads r cs → ((a : A) → Leads (f a) ds) → Leads (and_then r f) (cs ++ ds)
 one-then (Ok a) f cs ds e h = and-next (complaint_of (f a)) cs ds e (h a)
 one-then (Err c) f cs ds e h = and-first c cs ds e
+
+-- the last of several
+and-none : {A : Type 0} (r : Result A Complaint) (cs : List Complaint) → Leads r cs → Leads r (cs ++ [])
+and-none r cs e = e ∙ ap first_of (sym (append-nil cs))
+
+-- what the answer of one says is what follows from it
+one-known : {A B : Type 0} (r : Result A Complaint) (f : A → Result B Complaint) (cs ds : List Complaint) → Leads r cs → ((a : A) → r ≡ Ok a → Leads (f a) ds) → Leads (and_then r f) (cs ++ ds)
+one-known (Ok a) f cs ds e h = and-next (complaint_of (f a)) cs ds e (h a refl)
+one-known (Err c) f cs ds e h = and-first c cs ds e
 
 -- what is made of a thing that was read says nothing more
 made : {A B : Type 0} (r : Result A Complaint) (f : A → B) (cs : List Complaint) → Leads r cs → Leads (and_then r (λ a. Ok (f a))) cs
@@ -245,59 +255,106 @@ feed-leads here d =
 
 -- ---- strategies
 
-abbrev ChildLeads : Option (Result Strategies Complaint) → Option (List Complaint) → Type 0
+abbrev ChildLeads : {A : Type 0} → Option (Result A Complaint) → Option (List Complaint) → Type 0
 ChildLeads None None = Unit {0}
 ChildLeads None (Some cs) = ⊥
 ChildLeads (Some r) None = ⊥
 ChildLeads (Some r) (Some cs) = Leads r cs
 
-of-order : (o : Ordering) (a b c : Option (Result Strategies Complaint)) (x y z : Option (List Complaint)) → ChildLeads a x → ChildLeads b y → ChildLeads c z → ChildLeads (match_ordering o a b c) (match_ordering o x y z)
+of-order : {A : Type 0} (o : Ordering) (a b c : Option (Result A Complaint)) (x y z : Option (List Complaint)) → ChildLeads a x → ChildLeads b y → ChildLeads c z → ChildLeads (match_ordering o a b c) (match_ordering o x y z)
 of-order Less a b c x y z h k l = h
 of-order Equal a b c x y z h k l = k
 of-order Greater a b c x y z h k l = l
 
-node-leads : (here : Path) (ms : Members) (a b : Option (Result Strategies Complaint)) (x y : Option (List Complaint)) → ChildLeads a x → ChildLeads b y → Leads (node_form here ms a b) (all_node here ms x y)
-node-leads here ms (Some r) b (Some cs) y h k =
+second-leads : {A : Type 0} (format : ℕ) (a : Option (Result A Complaint)) (x : Option (List Complaint)) → ChildLeads a x → ChildLeads (in_second format a) (in_second format x)
+second-leads format a x h = by (is_second format)
+  where
+    by : (b : Bool) → ChildLeads (if b then a else None) (if b then x else None)
+    by true = h
+    by false = tt
+
+node-leads : (here : Path) (ms : Members) (a b : Option (Result Strategies Complaint)) (c : Option (Result Strategy Complaint)) (x y z : Option (List Complaint)) → ChildLeads a x → ChildLeads b y → ChildLeads c z → Leads (node_form here ms a b c) (all_node here ms x y z)
+node-leads here ms (Some r) b c (Some cs) y z h k l =
     one-then (none_unknown here (unknown_key (codes "cross" ∷ []) ms)) (λ u. and_then r (λ ts. Ok (cross ts))) (all_unknown (codes "cross" ∷ []) here ms) cs (unknown-leads (codes "cross" ∷ []) here ms) (λ u. made r cross cs h)
-node-leads here ms (Some r) b None y h k = absurd h
-node-leads here ms None b (Some cs) y h k = absurd h
-node-leads here ms None (Some r) None (Some cs) h k =
+node-leads here ms (Some r) b c None y z h k l = absurd h
+node-leads here ms None b c (Some cs) y z h k l = absurd h
+node-leads here ms None (Some r) c None (Some cs) z h k l =
     one-then (none_unknown here (unknown_key (codes "dot" ∷ []) ms)) (λ u. and_then r (λ ts. Ok (dot ts))) (all_unknown (codes "dot" ∷ []) here ms) cs (unknown-leads (codes "dot" ∷ []) here ms) (λ u. made r dot cs k)
-node-leads here ms None (Some r) None None h k = absurd k
-node-leads here ms None None None (Some cs) h k = absurd k
-node-leads here ms None None None None h k =
+node-leads here ms None (Some r) c None None z h k l = absurd k
+node-leads here ms None None c None (Some cs) z h k l = absurd k
+node-leads here ms None None (Some r) None None (Some cs) h k l =
+    one-then (none_unknown here (unknown_key (codes "prefix" ∷ []) ms)) (λ u. r) (all_unknown (codes "prefix" ∷ []) here ms) cs (unknown-leads (codes "prefix" ∷ []) here ms) (λ u. l)
+node-leads here ms None None (Some r) None None None h k l = absurd l
+node-leads here ms None None None None None (Some cs) h k l = absurd l
+node-leads here ms None None None None None None h k l =
     one-then (none_unknown here (unknown_key (codes "cross" ∷ []) ms)) (λ u. complaint Missing (key here (codes "cross"))) (all_unknown (codes "cross" ∷ []) here ms) (wrong Missing (key here (codes "cross"))) (unknown-leads (codes "cross" ∷ []) here ms) (λ u. refl)
 
+-- three or more are more than two
+not-few : (n : ℕ) → nat_lt (suc (suc (suc n))) 2 ≡ false
+not-few n = grind (arith, nat_tests)
+
+too-many : (n : ℕ) → nat_lt 2 (suc (suc (suc n))) ≡ true
+too-many n = grind (arith, nat_tests)
+
 mutual
-  tree-leads : (here : Path) (d : Data) → Leads (tree_form here d) (all_tree here d)
-  tree-leads here null = refl
-  tree-leads here (boolean b) = refl
-  tree-leads here (number n) = refl
-  tree-leads here (string s) = made (name_or_not here s) port (wrong_unless (is_name s) BadName here) (name-first here s)
-  tree-leads here (array ds) = refl
-  tree-leads here (object ms) =
-      node-leads here ms (children_form (codes "cross") (key here (codes "cross")) ms) (children_form (codes "dot") (key here (codes "dot")) ms) (all_children (codes "cross") (key here (codes "cross")) ms) (all_children (codes "dot") (key here (codes "dot")) ms)
-      (children-lead (codes "cross") (key here (codes "cross")) ms) (children-lead (codes "dot") (key here (codes "dot")) ms)
+  tree-leads : (format : ℕ) (here : Path) (d : Data) → Leads (tree_form format here d) (all_tree format here d)
+  tree-leads format here null = refl
+  tree-leads format here (boolean b) = refl
+  tree-leads format here (number n) = refl
+  tree-leads format here (string s) = made (name_or_not here s) port (wrong_unless (is_name s) BadName here) (name-first here s)
+  tree-leads format here (array ds) = refl
+  tree-leads format here (object ms) =
+      node-leads here ms (children_form format (codes "cross") (key here (codes "cross")) ms) (children_form format (codes "dot") (key here (codes "dot")) ms) (in_second format (pair_form format (codes "prefix") (key here (codes "prefix")) ms))
+      (all_children format 1 16 (codes "cross") (key here (codes "cross")) ms) (all_children format 1 16 (codes "dot") (key here (codes "dot")) ms) (in_second format (all_children format 2 2 (codes "prefix") (key here (codes "prefix")) ms))
+      (children-lead format (codes "cross") (key here (codes "cross")) ms) (children-lead format (codes "dot") (key here (codes "dot")) ms)
+      (second-leads format (pair_form format (codes "prefix") (key here (codes "prefix")) ms) (all_children format 2 2 (codes "prefix") (key here (codes "prefix")) ms) (pair-leads format (codes "prefix") (key here (codes "prefix")) ms))
 
-  children-lead : (k : Text) (there : Path) (ms : Members) → ChildLeads (children_form k there ms) (all_children k there ms)
-  children-lead k there no_members = tt
-  children-lead k there (member l d ms) =
-      of-order (slice_cmp nat_cmp k l) (children_form k there ms) (Some (trees_form there d)) (children_form k there ms) (all_children k there ms) (Some (all_trees there d)) (all_children k there ms)
-      (children-lead k there ms) (trees-lead there d) (children-lead k there ms)
+  children-lead : (format : ℕ) (k : Text) (there : Path) (ms : Members) → ChildLeads (children_form format k there ms) (all_children format 1 16 k there ms)
+  children-lead format k there no_members = tt
+  children-lead format k there (member l d ms) =
+      of-order (slice_cmp nat_cmp k l) (children_form format k there ms) (Some (trees_form format there d)) (children_form format k there ms) (all_children format 1 16 k there ms) (Some (all_trees format 1 16 there d)) (all_children format 1 16 k there ms)
+      (children-lead format k there ms) (trees-lead format there d) (children-lead format k there ms)
 
-  trees-lead : (here : Path) (d : Data) → Leads (trees_form here d) (all_trees here d)
-  trees-lead here null = refl
-  trees-lead here (boolean b) = refl
-  trees-lead here (number n) = refl
-  trees-lead here (string s) = refl
-  trees-lead here (array ds) = one-then (counted 1 16 here (item_count ds)) (λ u. each_tree here 0 ds) (all_counted 1 16 here (item_count ds)) (each_all_tree here 0 ds) (counted-leads 1 16 here (item_count ds)) (λ u. each-leads here 0 ds)
-  trees-lead here (object ms) = refl
+  trees-lead : (format : ℕ) (here : Path) (d : Data) → Leads (trees_form format here d) (all_trees format 1 16 here d)
+  trees-lead format here null = refl
+  trees-lead format here (boolean b) = refl
+  trees-lead format here (number n) = refl
+  trees-lead format here (string s) = refl
+  trees-lead format here (array ds) = one-then (counted 1 16 here (item_count ds)) (λ u. each_tree format here 0 ds) (all_counted 1 16 here (item_count ds)) (each_all_tree format here 0 ds) (counted-leads 1 16 here (item_count ds)) (λ u. each-leads format here 0 ds)
+  trees-lead format here (object ms) = refl
 
-  each-leads : (here : Path) (i : ℕ) (ds : Items) → Leads (each_tree here i ds) (each_all_tree here i ds)
-  each-leads here i no_items = refl
-  each-leads here i (item d ds) =
-      one-then (tree_form (index here i) d) (λ t. and_then (each_tree here (suc i) ds) (λ ts. Ok (strategy t ts))) (all_tree (index here i) d) (each_all_tree here (suc i) ds) (tree-leads (index here i) d)
-      (λ t. made (each_tree here (suc i) ds) (strategy t) (each_all_tree here (suc i) ds) (each-leads here (suc i) ds))
+  each-leads : (format : ℕ) (here : Path) (i : ℕ) (ds : Items) → Leads (each_tree format here i ds) (each_all_tree format here i ds)
+  each-leads format here i no_items = refl
+  each-leads format here i (item d ds) =
+      one-then (tree_form format (index here i) d) (λ t. and_then (each_tree format here (suc i) ds) (λ ts. Ok (strategy t ts))) (all_tree format (index here i) d) (each_all_tree format here (suc i) ds) (tree-leads format (index here i) d)
+      (λ t. made (each_tree format here (suc i) ds) (strategy t) (each_all_tree format here (suc i) ds) (each-leads format here (suc i) ds))
+
+  pair-leads : (format : ℕ) (k : Text) (there : Path) (ms : Members) → ChildLeads (pair_form format k there ms) (all_children format 2 2 k there ms)
+  pair-leads format k there no_members = tt
+  pair-leads format k there (member l d ms) =
+      of-order (slice_cmp nat_cmp k l) (pair_form format k there ms) (Some (prefix_form format there d)) (pair_form format k there ms) (all_children format 2 2 k there ms) (Some (all_trees format 2 2 there d)) (all_children format 2 2 k there ms)
+      (pair-leads format k there ms) (prefix-leads format there d) (pair-leads format k there ms)
+
+  prefix-leads : (format : ℕ) (here : Path) (d : Data) → Leads (prefix_form format here d) (all_trees format 2 2 here d)
+  prefix-leads format here null = refl
+  prefix-leads format here (boolean b) = refl
+  prefix-leads format here (number n) = refl
+  prefix-leads format here (string s) = refl
+  prefix-leads format here (array ds) = two-lead format here ds
+  prefix-leads format here (object ms) = refl
+
+  two-lead : (format : ℕ) (here : Path) (ds : Items) → Leads (two_trees format here ds) (all_counted 2 2 here (item_count ds) ++ each_all_tree format here 0 ds)
+  two-lead format here no_items = refl
+  two-lead format here (item l no_items) = refl
+  two-lead format here (item l (item r no_items)) =
+      one-then (tree_form format (index here 0) l) (λ left. and_then (tree_form format (index here 1) r) (λ right. Ok (prefix left right))) (all_tree format (index here 0) l) (all_tree format (index here 1) r ++ []) (tree-leads format (index here 0) l)
+      (λ left. made (tree_form format (index here 1) r) (prefix left) (all_tree format (index here 1) r ++ []) (and-none (tree_form format (index here 1) r) (all_tree format (index here 1) r) (tree-leads format (index here 1) r)))
+  two-lead format here (item l (item r (item d ds))) =
+      let n = item_count ds in
+      let rest = each_all_tree format here 0 (item l (item r (item d ds))) in
+      sym
+      (ap (λ b. first_of ((if b then wrong Empty here else (if nat_lt 2 (suc (suc (suc n))) then wrong OutOfRange here else [])) ++ rest)) (not-few n)
+      ∙ ap (λ b. first_of ((if b then wrong OutOfRange here else []) ++ rest)) (too-many n))
 
 -- ---- steps, flows and documents
 
@@ -328,31 +385,60 @@ step_input-leads here d =
 names-leads : (here : Path) (d : Data) → Leads (names_form here d) (all_array all_name 0 16 here d)
 names-leads here d = made (array_form name_form 0 16 here d) (in_order name_cmp) (all_array all_name 0 16 here d) (array-leads name_form all_name name-leads 0 16 here d)
 
-given_tree-leads : (here : Path) (d : Data) → Leads (given_tree here d) (all_tree here d)
-given_tree-leads here d = made (tree_form here d) Some (all_tree here d) (tree-leads here d)
+given_tree-leads : (format : ℕ) (here : Path) (d : Data) → Leads (given_tree format here d) (all_tree format here d)
+given_tree-leads format here d = made (tree_form format here d) Some (all_tree format here d) (tree-leads format here d)
 
-step-leads : (here : Path) (d : Data) → Leads (step_form here d) (all_step here d)
-step-leads here d =
-    fields-then step_fields here d _ _
+text-leads : (here : Path) (d : Data) → Leads (text_form here d) (all_text here d)
+text-leads here d = by (as_str d)
+  where
+    by : (o : Option Text) → Leads (wanted here o) (all_wanted here (λ s. []) o)
+    by None = refl
+    by (Some s) = refl
+
+loop-leads : (here : Path) (d : Data) → Leads (loop_form here d) (all_loop here d)
+loop-leads here d =
+    fields-then (codes "service" ∷ codes "until" ∷ codes "most" ∷ []) here d _ _
+    (one-then (required name_form (codes "service") here d) _ (all_required all_name (codes "service") here d) _ (required-leads name_form all_name name-leads (codes "service") here d)
+    (λ service. one-then (required text_form (codes "until") here d) _ (all_required all_text (codes "until") here d) _ (required-leads text_form all_text text-leads (codes "until") here d)
+    (λ until. one-then (required (number_form 1 100) (codes "most") here d) _ (all_required (all_number 1 100) (codes "most") here d) _ (required-leads (number_form 1 100) (all_number 1 100) (number-leads 1 100) (codes "most") here d) (λ most. refl))))
+
+given_loop-leads : (here : Path) (d : Data) → Leads (given_loop here d) (all_loop here d)
+given_loop-leads here d = made (loop_form here d) Some (all_loop here d) (loop-leads here d)
+
+repeat-leads : (format : ℕ) (here : Path) (d : Data) → Leads (repeat_form format here d) (all_repeat format here d)
+repeat-leads format here d =
+    either-leads (is_second format) (optional None given_loop (codes "loop") here d) (Ok None) (all_optional all_loop (codes "loop") here d) []
+    (optional-leads given_loop all_loop given_loop-leads None (codes "loop") here d) refl
+
+step-leads : (format : ℕ) (here : Path) (d : Data) → Leads (step_form format here d) (all_step format here d)
+step-leads format here d =
+    fields-then (step_fields format) here d _ _
     (one-then (optional [] (named_form step_input_form 0 16) (codes "inputs") here d) _ (all_optional (all_named all_step_input 0 16) (codes "inputs") here d) _ (optional-leads (named_form step_input_form 0 16) (all_named all_step_input 0 16) (named-leads step_input_form all_step_input step_input-leads 0 16) [] (codes "inputs") here d)
     (λ inputs. one-then (optional [] (named_form depth_form 0 16) (codes "outputs") here d) _ (all_optional (all_named all_depth 0 16) (codes "outputs") here d) _ (optional-leads (named_form depth_form 0 16) (all_named all_depth 0 16) (named-leads depth_form all_depth depth-leads 0 16) [] (codes "outputs") here d)
-    (λ outputs. one-then (optional None given_tree (codes "strategy") here d) _ (all_optional all_tree (codes "strategy") here d) _ (optional-leads given_tree all_tree given_tree-leads None (codes "strategy") here d)
+    (λ outputs. one-then (optional None (given_tree format) (codes "strategy") here d) _ (all_optional (all_tree format) (codes "strategy") here d) _ (optional-leads (given_tree format) (all_tree format) (given_tree-leads format) None (codes "strategy") here d)
     (λ strategy. one-then (required (array_form activity_form 1 8) (codes "activities") here d) _ (all_required (all_array all_activity 1 8) (codes "activities") here d) _ (required-leads (array_form activity_form 1 8) (all_array all_activity 1 8) (array-leads activity_form all_activity activity-leads 1 8) (codes "activities") here d)
     (λ activities. one-then (optional 0 (number_form 0 100) (codes "retries") here d) _ (all_optional (all_number 0 100) (codes "retries") here d) _ (optional-leads (number_form 0 100) (all_number 0 100) (number-leads 0 100) 0 (codes "retries") here d)
     (λ retries. one-then (optional 1 (number_form 1 64) (codes "jobs") here d) _ (all_optional (all_number 1 64) (codes "jobs") here d) _ (optional-leads (number_form 1 64) (all_number 1 64) (number-leads 1 64) 1 (codes "jobs") here d)
-    (λ jobs. one-then (optional [] names_form (codes "after") here d) _ (all_optional (all_array all_name 0 16) (codes "after") here d) _ (optional-leads names_form (all_array all_name 0 16) names-leads [] (codes "after") here d) (λ after. refl))))))))
+    (λ jobs. one-then (optional [] names_form (codes "after") here d) _ (all_optional (all_array all_name 0 16) (codes "after") here d) _ (optional-leads names_form (all_array all_name 0 16) names-leads [] (codes "after") here d)
+    (λ after. one-then (repeat_form format here d) _ (all_repeat format here d) [] (repeat-leads format here d) (λ repeat. refl)))))))))
 
-flow-leads : (here : Path) (d : Data) → Leads (flow_form here d) (all_flow here d)
-flow-leads here d =
+flow-leads : (format : ℕ) (here : Path) (d : Data) → Leads (flow_form format here d) (all_flow format here d)
+flow-leads format here d =
     fields-then (codes "inputs" ∷ codes "steps" ∷ codes "outputs" ∷ []) here d _ _
     (one-then (optional [] (named_form depth_form 0 16) (codes "inputs") here d) _ (all_optional (all_named all_depth 0 16) (codes "inputs") here d) _ (optional-leads (named_form depth_form 0 16) (all_named all_depth 0 16) (named-leads depth_form all_depth depth-leads 0 16) [] (codes "inputs") here d)
-    (λ inputs. one-then (optional [] (named_form step_form 0 1000) (codes "steps") here d) _ (all_optional (all_named all_step 0 1000) (codes "steps") here d) _ (optional-leads (named_form step_form 0 1000) (all_named all_step 0 1000) (named-leads step_form all_step step-leads 0 1000) [] (codes "steps") here d)
+    (λ inputs. one-then (optional [] (named_form (step_form format) 0 1000) (codes "steps") here d) _ (all_optional (all_named (all_step format) 0 1000) (codes "steps") here d) _ (optional-leads (named_form (step_form format) 0 1000) (all_named (all_step format) 0 1000) (named-leads (step_form format) (all_step format) (step-leads format) 0 1000) [] (codes "steps") here d)
     (λ steps. one-then (required (named_form feed_form 0 16) (codes "outputs") here d) _ (all_required (all_named all_feed 0 16) (codes "outputs") here d) _ (required-leads (named_form feed_form 0 16) (all_named all_feed 0 16) (named-leads feed_form all_feed feed-leads 0 16) (codes "outputs") here d) (λ outputs. refl))))
+
+-- flows are of the format that was read
+flows-leads : (here : Path) (d : Data) (format : ℕ) → required (number_form 1 2) (codes "taverna") here d ≡ Ok format → Leads (required (named_form (flow_form format) 1 256) (codes "flows") here d) (all_required (all_named (all_flow (format_of here d)) 1 256) (codes "flows") here d)
+flows-leads here d format e =
+    required-leads (named_form (flow_form format) 1 256) (all_named (all_flow format) 1 256) (named-leads (flow_form format) (all_flow format) (flow-leads format) 1 256) (codes "flows") here d
+    ∙ ap (λ r. first_of (all_required (all_named (all_flow (format_or r)) 1 256) (codes "flows") here d)) (sym e)
 
 pub document-leads : (here : Path) (d : Data) → Leads (document_form here d) (all_document here d)
 document-leads here d =
     fields-then (codes "taverna" ∷ codes "main" ∷ codes "flows" ∷ codes "inputs" ∷ []) here d _ _
-    (one-then (required (number_form 1 1) (codes "taverna") here d) _ (all_required (all_number 1 1) (codes "taverna") here d) _ (required-leads (number_form 1 1) (all_number 1 1) (number-leads 1 1) (codes "taverna") here d)
-    (λ format. one-then (required name_form (codes "main") here d) _ (all_required all_name (codes "main") here d) _ (required-leads name_form all_name name-leads (codes "main") here d)
-    (λ main. one-then (required (named_form flow_form 1 256) (codes "flows") here d) _ (all_required (all_named all_flow 1 256) (codes "flows") here d) _ (required-leads (named_form flow_form 1 256) (all_named all_flow 1 256) (named-leads flow_form all_flow flow-leads 1 256) (codes "flows") here d)
+    (one-known (required (number_form 1 2) (codes "taverna") here d) _ (all_required (all_number 1 2) (codes "taverna") here d) _ (required-leads (number_form 1 2) (all_number 1 2) (number-leads 1 2) (codes "taverna") here d)
+    (λ format read. one-then (required name_form (codes "main") here d) _ (all_required all_name (codes "main") here d) _ (required-leads name_form all_name name-leads (codes "main") here d)
+    (λ main. one-then (required (named_form (flow_form format) 1 256) (codes "flows") here d) _ (all_required (all_named (all_flow (format_of here d)) 1 256) (codes "flows") here d) _ (flows-leads here d format read)
     (λ flows. one-then (optional [] (named_form value_form 0 16) (codes "inputs") here d) _ (all_optional (all_named all_value 0 16) (codes "inputs") here d) _ (optional-leads (named_form value_form 0 16) (all_named all_value 0 16) (named-leads value_form all_value value-leads 0 16) [] (codes "inputs") here d) (λ inputs. refl)))))

@@ -2,7 +2,7 @@
 use Rattle.std.specs.Prelude.{ℕ, List, Option}
 use Rattle.tv_value.specs.Values.{Name, Value}
 use Rattle.tv_value.specs.Strategies.{Strategy}
-use Rattle.tv_value.specs.Activities.{Activity}
+use Rattle.tv_value.specs.Activities.{Activity, Repeat}
 
 -- where a value comes from: an input of the flow, or an output of one of its steps
 pub data Link : Type 0 where
@@ -27,6 +27,7 @@ pub record Step : Type 0 where
   pub retries : ℕ
   pub jobs : ℕ
   pub after : List Name
+  pub repeat : Option Repeat
 
 pub record Flow : Type 0 where
   pub inputs : List (Name × ℕ)
@@ -38,3 +39,7 @@ pub record Document : Type 0 where
   pub main : Name
   pub flows : List (Name × Flow)
   pub inputs : List (Name × Value)
+
+-- the same document in the second format, which has all that the first has
+abbrev pub upgraded : Document → Document
+upgraded d = record d { format = 2 }

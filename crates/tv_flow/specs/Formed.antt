@@ -7,9 +7,9 @@ use Rattle.tv_value.specs.Values.{Name, Value, Scalar, is_fault}
 use Rattle.tv_value.specs.DepthSets.{least_depth}
 use Rattle.tv_value.specs.Readings.{length_limit}
 use Rattle.tv_value.specs.Orders.{name_cmp}
-use Rattle.tv_value.specs.Strategies.{Strategy, port, cross, dot, Strategies, no_strategies, strategy}
-use Rattle.tv_value.specs.Activities.{Activity, service, nested}
-use Rattle.tv_flow.specs.Forms.{is_name}
+use Rattle.tv_value.specs.Strategies.{Strategy, port, cross, dot, prefix, Strategies, no_strategies, strategy}
+use Rattle.tv_value.specs.Activities.{Activity, Repeat, service, nested}
+use Rattle.tv_flow.specs.Forms.{is_name, is_second}
 use Rattle.tv_flow.specs.Flows.{Link, input, output, Feed, link, merge, constant, StepInput, Step, Flow, Document}
 
 -- in byte order, each once
@@ -63,6 +63,7 @@ abbrev mutual
   is_tree (port n) = is_name n
   is_tree (cross ts) = is_between 1 16 (strategy_count ts) && are_trees ts
   is_tree (dot ts) = is_between 1 16 (strategy_count ts) && are_trees ts
+  is_tree (prefix l r) = is_tree l && is_tree r
 
   pub are_trees : Strategies → Bool
   are_trees no_strategies = true
@@ -83,17 +84,56 @@ is_step_input i = is_depth i.depth && is_feed i.from
 abbrev pub are_names : List Name → Bool
 are_names ns = nat_le (length ns) 16 && is_ascending ns && list_all is_name ns
 
+abbrev pub is_repeat : Repeat → Bool
+is_repeat r = is_name r.service && is_between 1 100 r.most
+
+abbrev pub is_given_loop : Option Repeat → Bool
+is_given_loop None = true
+is_given_loop (Some r) = is_repeat r
+
 abbrev pub is_step : Step → Bool
 is_step s =
     are_named is_step_input 0 16 s.inputs && are_named is_depth 0 16 s.outputs
     && is_given_tree s.strategy && are_listed is_activity 1 8 s.activities
     && is_between 0 100 s.retries && is_between 1 64 s.jobs && are_names s.after
+    && is_given_loop s.repeat
 
 abbrev pub is_flow : Flow → Bool
 is_flow f = are_named is_depth 0 16 f.inputs && are_named is_step 0 1000 f.steps
     && are_named is_feed 0 16 f.outputs
 
+-- ---- formats: the second alone has prefix nodes and loops
+
+abbrev mutual
+  pub tree_fits : ℕ → Strategy → Bool
+  tree_fits format (port n) = true
+  tree_fits format (cross ts) = trees_fit format ts
+  tree_fits format (dot ts) = trees_fit format ts
+  tree_fits format (prefix l r) = is_second format && tree_fits format l && tree_fits format r
+
+  pub trees_fit : ℕ → Strategies → Bool
+  trees_fit format no_strategies = true
+  trees_fit format (strategy t ts) = tree_fits format t && trees_fit format ts
+
+abbrev pub given_tree_fits : ℕ → Option Strategy → Bool
+given_tree_fits format None = true
+given_tree_fits format (Some t) = tree_fits format t
+
+abbrev pub loop_fits : ℕ → Option Repeat → Bool
+loop_fits format None = true
+loop_fits format (Some r) = is_second format
+
+abbrev pub step_fits : ℕ → Step → Bool
+step_fits format s = given_tree_fits format s.strategy && loop_fits format s.repeat
+
+abbrev pub flow_fits : ℕ → Flow → Bool
+flow_fits format f = list_all (λ s. step_fits format s.1) f.steps
+
+-- a format that there is, and flows with nothing that it hasn't
+abbrev pub are_of_format : ℕ → List (Name × Flow) → Bool
+are_of_format format fs = is_between 1 2 format && list_all (λ f. flow_fits format f.1) fs
+
 -- all but the number of its own inputs, which a document may have more of
 abbrev pub is_formed : Document → Bool
-is_formed d = is_between 1 1 d.format && is_name d.main && are_named is_flow 1 256 d.flows
+is_formed d = are_of_format d.format d.flows && is_name d.main && are_named is_flow 1 256 d.flows
     && are_entries is_value d.inputs

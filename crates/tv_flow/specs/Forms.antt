@@ -1,5 +1,5 @@
 -- The form of documents, table by table. Each reads a JSON tree that stands at a path, and gives what it stands for or the first complaint.
-use Rattle.std.specs.Prelude.{ℕ, suc, List, [], ◌∷◌, length, Bool, ◌&&◌, ◌||◌, ◌==◌, nat_le, nat_lt, codes, if◌then◌else◌, Option, Some, None, is_some, Result, Ok, Err}
+use Rattle.std.specs.Prelude.{ℕ, suc, List, [], ◌∷◌, ◌++◌, length, Bool, ◌&&◌, ◌||◌, ◌==◌, nat_le, nat_lt, codes, if◌then◌else◌, Option, Some, None, is_some, Result, Ok, Err}
 use Rattle.std.specs.List.{list_all, list_any}
 use Rattle.std.specs.Ordering.{nat_cmp, match_ordering}
 use Rattle.std.specs.Cmp.Lexicographic.{slice_cmp}
@@ -9,8 +9,8 @@ use Rattle.tv_value.specs.Values.{Text, Name, Value}
 use Rattle.tv_value.specs.Orders.{same_name, name_cmp, in_order}
 use Rattle.tv_value.specs.Readings as reading
 use Rattle.tv_value.specs.Readings.{read, not_text, ragged, item_count}
-use Rattle.tv_value.specs.Strategies.{Strategy, port, cross, dot, Strategies, no_strategies, strategy}
-use Rattle.tv_value.specs.Activities.{Activity, service, nested}
+use Rattle.tv_value.specs.Strategies.{Strategy, port, cross, dot, prefix, Strategies, no_strategies, strategy}
+use Rattle.tv_value.specs.Activities.{Activity, Repeat, service, nested}
 use Rattle.tv_flow.specs.declared.faults.FormKind.TheVariants.{Missing, Unknown, WrongKind, BadName, OutOfRange, Empty, NotText, Ragged}
 use Rattle.tv_flow.specs.Complaints.{Path, Complaint, complaint, key, index, place, and_then}
 use Rattle.tv_flow.specs.Flows.{Link, input, output, Feed, link, merge, constant, StepInput, Step, Flow, Document}
@@ -179,46 +179,81 @@ feed_form here d =
 
 -- ---- strategies
 
--- a node is decided by the first key that is there of `cross` and `dot`; with neither it is a cross
+-- of the two formats of documents, the second has prefix nodes and loops besides
+abbrev pub is_second : ℕ → Bool
+is_second format = format == 2
+
+abbrev pub in_second : {A : Type 0} → ℕ → Option A → Option A
+in_second format o = if is_second format then o else None
+
+-- a node is decided by the first key that is there of `cross`, `dot` and, in the second format, `prefix`; with none of them it is a cross
 abbrev pub node_form : Path → Members → Option (Result Strategies Complaint)
-    → Option (Result Strategies Complaint) → Result Strategy Complaint
-node_form here ms (Some trees) other = and_then (fields_form (codes "cross" ∷ []) here (object ms))
-    (λ u. and_then trees (λ ts. Ok (cross ts)))
-node_form here ms None (Some trees) = and_then (fields_form (codes "dot" ∷ []) here (object ms))
-    (λ u. and_then trees (λ ts. Ok (dot ts)))
-node_form here ms None None = and_then (fields_form (codes "cross" ∷ []) here (object ms))
+    → Option (Result Strategies Complaint) → Option (Result Strategy Complaint)
+    → Result Strategy Complaint
+node_form here ms (Some trees) others pair = and_then
+    (fields_form (codes "cross" ∷ []) here (object ms)) (λ u. and_then trees (λ ts. Ok (cross ts)))
+node_form here ms None (Some trees) pair = and_then
+    (fields_form (codes "dot" ∷ []) here (object ms)) (λ u. and_then trees (λ ts. Ok (dot ts)))
+node_form here ms None None (Some pair) = and_then
+    (fields_form (codes "prefix" ∷ []) here (object ms)) (λ u. pair)
+node_form here ms None None None = and_then (fields_form (codes "cross" ∷ []) here (object ms))
     (λ u. complaint Missing (key here (codes "cross")))
 
 abbrev mutual
-  pub tree_form : Path → Data → Result Strategy Complaint
-  tree_form here null = complaint WrongKind here
-  tree_form here (boolean b) = complaint WrongKind here
-  tree_form here (number n) = complaint WrongKind here
-  tree_form here (string s) = and_then (name_or_not here s) (λ n. Ok (port n))
-  tree_form here (array ds) = complaint WrongKind here
-  tree_form here (object ms) =
-      node_form here ms (children_form (codes "cross") (key here (codes "cross")) ms)
-      (children_form (codes "dot") (key here (codes "dot")) ms)
+  pub tree_form : ℕ → Path → Data → Result Strategy Complaint
+  tree_form format here null = complaint WrongKind here
+  tree_form format here (boolean b) = complaint WrongKind here
+  tree_form format here (number n) = complaint WrongKind here
+  tree_form format here (string s) = and_then (name_or_not here s) (λ n. Ok (port n))
+  tree_form format here (array ds) = complaint WrongKind here
+  tree_form format here (object ms) =
+      node_form here ms (children_form format (codes "cross") (key here (codes "cross")) ms)
+      (children_form format (codes "dot") (key here (codes "dot")) ms)
+      (in_second format (pair_form format (codes "prefix") (key here (codes "prefix")) ms))
 
   -- the trees of the member at a key, if there is one; the path is that of the member
-  pub children_form : Text → Path → Members → Option (Result Strategies Complaint)
-  children_form k there no_members = None
-  children_form k there (member l d ms) = match_ordering (slice_cmp nat_cmp k l)
-      (children_form k there ms) (Some (trees_form there d)) (children_form k there ms)
+  pub children_form : ℕ → Text → Path → Members → Option (Result Strategies Complaint)
+  children_form format k there no_members = None
+  children_form format k there (member l d ms) = match_ordering (slice_cmp nat_cmp k l)
+      (children_form format k there ms) (Some (trees_form format there d))
+      (children_form format k there ms)
 
-  pub trees_form : Path → Data → Result Strategies Complaint
-  trees_form here null = complaint WrongKind here
-  trees_form here (boolean b) = complaint WrongKind here
-  trees_form here (number n) = complaint WrongKind here
-  trees_form here (string s) = complaint WrongKind here
-  trees_form here (array ds) = and_then (counted 1 16 here (item_count ds))
-      (λ u. each_tree here 0 ds)
-  trees_form here (object ms) = complaint WrongKind here
+  pub trees_form : ℕ → Path → Data → Result Strategies Complaint
+  trees_form format here null = complaint WrongKind here
+  trees_form format here (boolean b) = complaint WrongKind here
+  trees_form format here (number n) = complaint WrongKind here
+  trees_form format here (string s) = complaint WrongKind here
+  trees_form format here (array ds) = and_then (counted 1 16 here (item_count ds))
+      (λ u. each_tree format here 0 ds)
+  trees_form format here (object ms) = complaint WrongKind here
 
-  pub each_tree : Path → ℕ → Items → Result Strategies Complaint
-  each_tree here i no_items = Ok no_strategies
-  each_tree here i (item d ds) = and_then (tree_form (index here i) d)
-      (λ t. and_then (each_tree here (suc i) ds) (λ ts. Ok (strategy t ts)))
+  pub each_tree : ℕ → Path → ℕ → Items → Result Strategies Complaint
+  each_tree format here i no_items = Ok no_strategies
+  each_tree format here i (item d ds) = and_then (tree_form format (index here i) d)
+      (λ t. and_then (each_tree format here (suc i) ds) (λ ts. Ok (strategy t ts)))
+
+  -- the prefix node of the member at a key, if there is one
+  pub pair_form : ℕ → Text → Path → Members → Option (Result Strategy Complaint)
+  pair_form format k there no_members = None
+  pair_form format k there (member l d ms) = match_ordering (slice_cmp nat_cmp k l)
+      (pair_form format k there ms) (Some (prefix_form format there d))
+      (pair_form format k there ms)
+
+  pub prefix_form : ℕ → Path → Data → Result Strategy Complaint
+  prefix_form format here null = complaint WrongKind here
+  prefix_form format here (boolean b) = complaint WrongKind here
+  prefix_form format here (number n) = complaint WrongKind here
+  prefix_form format here (string s) = complaint WrongKind here
+  prefix_form format here (array ds) = two_trees format here ds
+  prefix_form format here (object ms) = complaint WrongKind here
+
+  -- exactly two
+  pub two_trees : ℕ → Path → Items → Result Strategy Complaint
+  two_trees format here no_items = complaint Empty here
+  two_trees format here (item l no_items) = complaint Empty here
+  two_trees format here (item l (item r no_items)) = and_then (tree_form format (index here 0) l)
+      (λ left. and_then (tree_form format (index here 1) r) (λ right. Ok (prefix left right)))
+  two_trees format here (item l (item r (item d ds))) = complaint OutOfRange here
 
 -- ---- steps
 
@@ -248,23 +283,47 @@ step_input_form here d =
 abbrev pub names_form : Path → Data → Result (List Name) Complaint
 names_form here d = and_then (array_form name_form 0 16 here d) (λ ns. Ok (in_order name_cmp ns))
 
-abbrev pub given_tree : Path → Data → Result (Option Strategy) Complaint
-given_tree here d = and_then (tree_form here d) (λ t. Ok (Some t))
+abbrev pub given_tree : ℕ → Path → Data → Result (Option Strategy) Complaint
+given_tree format here d = and_then (tree_form format here d) (λ t. Ok (Some t))
 
-abbrev pub step_fields : List Text
-step_fields = codes "inputs" ∷ codes "outputs" ∷ codes "strategy" ∷ codes "activities"
+abbrev pub text_form : Path → Data → Result Text Complaint
+text_form here d = wanted here (as_str d)
+
+abbrev pub loop_form : Path → Data → Result Repeat Complaint
+loop_form here d =
+    and_then (fields_form (codes "service" ∷ codes "until" ∷ codes "most" ∷ []) here d) (λ u.
+    and_then (required name_form (codes "service") here d) (λ service.
+    and_then (required text_form (codes "until") here d) (λ until.
+    and_then (required (number_form 1 100) (codes "most") here d) (λ most.
+    Ok (record { service = service; until = until; most = most })))))
+
+abbrev pub given_loop : Path → Data → Result (Option Repeat) Complaint
+given_loop here d = and_then (loop_form here d) (λ r. Ok (Some r))
+
+-- the loop of a step, which the second format alone has
+abbrev pub repeat_form : ℕ → Path → Data → Result (Option Repeat) Complaint
+repeat_form format here d = if is_second format then optional None given_loop (codes "loop") here d
+    else Ok None
+
+abbrev pub first_fields : List Text
+first_fields = codes "inputs" ∷ codes "outputs" ∷ codes "strategy" ∷ codes "activities"
     ∷ codes "retries" ∷ codes "jobs" ∷ codes "after" ∷ []
 
-abbrev pub step_form : Path → Data → Result Step Complaint
-step_form here d =
-    and_then (fields_form step_fields here d) (λ u.
+abbrev pub step_fields : ℕ → List Text
+step_fields format = if is_second format then first_fields ++ (codes "loop" ∷ [])
+    else first_fields
+
+abbrev pub step_form : ℕ → Path → Data → Result Step Complaint
+step_form format here d =
+    and_then (fields_form (step_fields format) here d) (λ u.
     and_then (optional [] (named_form step_input_form 0 16) (codes "inputs") here d) (λ inputs.
     and_then (optional [] (named_form depth_form 0 16) (codes "outputs") here d) (λ outputs.
-    and_then (optional None given_tree (codes "strategy") here d) (λ strategy.
+    and_then (optional None (given_tree format) (codes "strategy") here d) (λ strategy.
     and_then (required (array_form activity_form 1 8) (codes "activities") here d) (λ activities.
     and_then (optional 0 (number_form 0 100) (codes "retries") here d) (λ retries.
     and_then (optional 1 (number_form 1 64) (codes "jobs") here d) (λ jobs.
     and_then (optional [] names_form (codes "after") here d) (λ after.
+    and_then (repeat_form format here d) (λ repeat.
     Ok (record {
       inputs = inputs;
       outputs = outputs;
@@ -273,15 +332,16 @@ step_form here d =
       retries = retries;
       jobs = jobs;
       after = after;
-    })))))))))
+      repeat = repeat;
+    }))))))))))
 
 -- ---- flows and documents
 
-abbrev pub flow_form : Path → Data → Result Flow Complaint
-flow_form here d =
+abbrev pub flow_form : ℕ → Path → Data → Result Flow Complaint
+flow_form format here d =
     and_then (fields_form (codes "inputs" ∷ codes "steps" ∷ codes "outputs" ∷ []) here d) (λ u.
     and_then (optional [] (named_form depth_form 0 16) (codes "inputs") here d) (λ inputs.
-    and_then (optional [] (named_form step_form 0 1000) (codes "steps") here d) (λ steps.
+    and_then (optional [] (named_form (step_form format) 0 1000) (codes "steps") here d) (λ steps.
     and_then (required (named_form feed_form 0 16) (codes "outputs") here d) (λ outputs.
     Ok (record { inputs = inputs; steps = steps; outputs = outputs })))))
 
@@ -289,9 +349,9 @@ abbrev pub document_form : Path → Data → Result Document Complaint
 document_form here d =
     and_then (fields_form (codes "taverna" ∷ codes "main" ∷ codes "flows" ∷ codes "inputs" ∷ [])
     here d) (λ u.
-    and_then (required (number_form 1 1) (codes "taverna") here d) (λ format.
+    and_then (required (number_form 1 2) (codes "taverna") here d) (λ format.
     and_then (required name_form (codes "main") here d) (λ main.
-    and_then (required (named_form flow_form 1 256) (codes "flows") here d) (λ flows.
+    and_then (required (named_form (flow_form format) 1 256) (codes "flows") here d) (λ flows.
     and_then (optional [] (named_form value_form 0 16) (codes "inputs") here d) (λ inputs.
     Ok (record { format = format; main = main; flows = flows; inputs = inputs }))))))
 

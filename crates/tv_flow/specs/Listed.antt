@@ -14,7 +14,7 @@ use Rattle.tv_value.specs.Orders.{same_name}
 use Rattle.tv_flow.specs.declared.faults.FormKind.{FormKind}
 use Rattle.tv_flow.specs.declared.faults.FormKind.TheVariants.{Missing, Unknown, WrongKind, BadName, OutOfRange, Empty, NotText, Ragged}
 use Rattle.tv_flow.specs.Complaints.{Path, Complaint, key, index}
-use Rattle.tv_flow.specs.Forms.{is_name, is_link, has, member_count, step_fields, form_of}
+use Rattle.tv_flow.specs.Forms.{is_name, is_link, has, member_count, required, number_form, is_second, in_second, step_fields, form_of}
 
 abbrev pub wrong : FormKind → Path → List Complaint
 wrong k p = record { kind = k; path = p } ∷ []
@@ -29,6 +29,9 @@ all_wanted here f (Some a) = f a
 
 abbrev pub all_name : Path → Data → List Complaint
 all_name here d = all_wanted here (λ s. wrong_unless (is_name s) BadName here) (as_str d)
+
+abbrev pub all_text : Path → Data → List Complaint
+all_text here d = all_wanted here (λ s. []) (as_str d)
 
 abbrev pub all_range : ℕ → ℕ → Path → Num → List Complaint
 all_range low high here (unsigned n) = wrong_unless (nat_le low n && nat_le n high) OutOfRange here
@@ -147,39 +150,44 @@ all_feed here d = if is_link d then all_link here d
 -- ---- strategies
 
 abbrev pub all_node : Path → Members → Option (List Complaint) → Option (List Complaint)
-    → List Complaint
-all_node here ms (Some inside) other = all_unknown (codes "cross" ∷ []) here ms ++ inside
-all_node here ms None (Some inside) = all_unknown (codes "dot" ∷ []) here ms ++ inside
-all_node here ms None None = all_unknown (codes "cross" ∷ []) here ms
+    → Option (List Complaint) → List Complaint
+all_node here ms (Some inside) others pair = all_unknown (codes "cross" ∷ []) here ms ++ inside
+all_node here ms None (Some inside) pair = all_unknown (codes "dot" ∷ []) here ms ++ inside
+all_node here ms None None (Some inside) = all_unknown (codes "prefix" ∷ []) here ms ++ inside
+all_node here ms None None None = all_unknown (codes "cross" ∷ []) here ms
     ++ wrong Missing (key here (codes "cross"))
 
 abbrev mutual
-  pub all_tree : Path → Data → List Complaint
-  all_tree here null = wrong WrongKind here
-  all_tree here (boolean b) = wrong WrongKind here
-  all_tree here (number n) = wrong WrongKind here
-  all_tree here (string s) = wrong_unless (is_name s) BadName here
-  all_tree here (array ds) = wrong WrongKind here
-  all_tree here (object ms) =
-      all_node here ms (all_children (codes "cross") (key here (codes "cross")) ms)
-      (all_children (codes "dot") (key here (codes "dot")) ms)
+  pub all_tree : ℕ → Path → Data → List Complaint
+  all_tree format here null = wrong WrongKind here
+  all_tree format here (boolean b) = wrong WrongKind here
+  all_tree format here (number n) = wrong WrongKind here
+  all_tree format here (string s) = wrong_unless (is_name s) BadName here
+  all_tree format here (array ds) = wrong WrongKind here
+  all_tree format here (object ms) =
+      all_node here ms (all_children format 1 16 (codes "cross") (key here (codes "cross")) ms)
+      (all_children format 1 16 (codes "dot") (key here (codes "dot")) ms)
+      (in_second format (all_children format 2 2 (codes "prefix") (key here (codes "prefix")) ms))
 
-  pub all_children : Text → Path → Members → Option (List Complaint)
-  all_children k there no_members = None
-  all_children k there (member l d ms) = match_ordering (slice_cmp nat_cmp k l)
-      (all_children k there ms) (Some (all_trees there d)) (all_children k there ms)
+  pub all_children : ℕ → ℕ → ℕ → Text → Path → Members → Option (List Complaint)
+  all_children format least most k there no_members = None
+  all_children format least most k there (member l d ms) = match_ordering (slice_cmp nat_cmp k l)
+      (all_children format least most k there ms) (Some (all_trees format least most there d))
+      (all_children format least most k there ms)
 
-  pub all_trees : Path → Data → List Complaint
-  all_trees here null = wrong WrongKind here
-  all_trees here (boolean b) = wrong WrongKind here
-  all_trees here (number n) = wrong WrongKind here
-  all_trees here (string s) = wrong WrongKind here
-  all_trees here (array ds) = all_counted 1 16 here (item_count ds) ++ each_all_tree here 0 ds
-  all_trees here (object ms) = wrong WrongKind here
+  pub all_trees : ℕ → ℕ → ℕ → Path → Data → List Complaint
+  all_trees format least most here null = wrong WrongKind here
+  all_trees format least most here (boolean b) = wrong WrongKind here
+  all_trees format least most here (number n) = wrong WrongKind here
+  all_trees format least most here (string s) = wrong WrongKind here
+  all_trees format least most here (array ds) = all_counted least most here (item_count ds)
+      ++ each_all_tree format here 0 ds
+  all_trees format least most here (object ms) = wrong WrongKind here
 
-  pub each_all_tree : Path → ℕ → Items → List Complaint
-  each_all_tree here i no_items = []
-  each_all_tree here i (item d ds) = all_tree (index here i) d ++ each_all_tree here (suc i) ds
+  pub each_all_tree : ℕ → Path → ℕ → Items → List Complaint
+  each_all_tree format here i no_items = []
+  each_all_tree format here i (item d ds) = all_tree format (index here i) d
+      ++ each_all_tree format here (suc i) ds
 
 -- ---- steps, flows and documents
 
@@ -206,35 +214,57 @@ all_step_input here d =
     (all_required all_depth (codes "depth") here d
     ++ all_required all_feed (codes "from") here d) d
 
-abbrev pub all_step : Path → Data → List Complaint
-all_step here d =
-    all_fields step_fields here
+abbrev pub all_loop : Path → Data → List Complaint
+all_loop here d =
+    all_fields (codes "service" ∷ codes "until" ∷ codes "most" ∷ []) here
+    (all_of
+    (all_required all_name (codes "service") here d
+    ∷ all_required all_text (codes "until") here d
+    ∷ all_required (all_number 1 100) (codes "most") here d ∷ []))
+    d
+
+abbrev pub all_repeat : ℕ → Path → Data → List Complaint
+all_repeat format here d = if is_second format then all_optional all_loop (codes "loop") here d
+    else []
+
+abbrev pub all_step : ℕ → Path → Data → List Complaint
+all_step format here d =
+    all_fields (step_fields format) here
     (all_of
     (all_optional (all_named all_step_input 0 16) (codes "inputs") here d
     ∷ all_optional (all_named all_depth 0 16) (codes "outputs") here d
-    ∷ all_optional all_tree (codes "strategy") here d
+    ∷ all_optional (all_tree format) (codes "strategy") here d
     ∷ all_required (all_array all_activity 1 8) (codes "activities") here d
     ∷ all_optional (all_number 0 100) (codes "retries") here d
     ∷ all_optional (all_number 1 64) (codes "jobs") here d
-    ∷ all_optional (all_array all_name 0 16) (codes "after") here d ∷ []))
+    ∷ all_optional (all_array all_name 0 16) (codes "after") here d
+    ∷ all_repeat format here d ∷ []))
     d
 
-abbrev pub all_flow : Path → Data → List Complaint
-all_flow here d =
+abbrev pub all_flow : ℕ → Path → Data → List Complaint
+all_flow format here d =
     all_fields (codes "inputs" ∷ codes "steps" ∷ codes "outputs" ∷ []) here
     (all_of
     (all_optional (all_named all_depth 0 16) (codes "inputs") here d
-    ∷ all_optional (all_named all_step 0 1000) (codes "steps") here d
+    ∷ all_optional (all_named (all_step format) 0 1000) (codes "steps") here d
     ∷ all_required (all_named all_feed 0 16) (codes "outputs") here d ∷ []))
     d
+
+-- the format that a document names; what stands in one that names none is of the first
+abbrev pub format_or : Result ℕ Complaint → ℕ
+format_or (Ok format) = format
+format_or (Err c) = 1
+
+abbrev pub format_of : Path → Data → ℕ
+format_of here d = format_or (required (number_form 1 2) (codes "taverna") here d)
 
 abbrev pub all_document : Path → Data → List Complaint
 all_document here d =
     all_fields (codes "taverna" ∷ codes "main" ∷ codes "flows" ∷ codes "inputs" ∷ []) here
     (all_of
-    (all_required (all_number 1 1) (codes "taverna") here d
+    (all_required (all_number 1 2) (codes "taverna") here d
     ∷ all_required all_name (codes "main") here d
-    ∷ all_required (all_named all_flow 1 256) (codes "flows") here d
+    ∷ all_required (all_named (all_flow (format_of here d)) 1 256) (codes "flows") here d
     ∷ all_optional (all_named all_value 0 16) (codes "inputs") here d ∷ []))
     d
 

@@ -12,6 +12,7 @@ use Rattle.tv_flow.specs.declared.document.Feed.TheVariants as feed
 use Rattle.tv_flow.specs.declared.document.Link.{Link}
 use Rattle.tv_flow.specs.declared.document.Link.TheVariants as link
 use Rattle.tv_flow.specs.declared.document.Activity.{Activity}
+use Rattle.tv_flow.specs.declared.document.Repeat.{Repeat}
 use Rattle.tv_flow.specs.declared.document.Activity.TheVariants.{Service, Nested}
 use Rattle.tv_flow.specs.Flows as spec
 
@@ -33,6 +34,9 @@ abbrev pub activity_view : Activity → activity.Activity
 activity_view (Service n) = activity.service n
 activity_view (Nested n) = activity.nested n
 
+abbrev pub repeat_view : Repeat → activity.Repeat
+repeat_view r = record { service = r.service; until = r.until; most = r.most }
+
 abbrev pub step_input_view : StepInput → spec.StepInput
 step_input_view i = record { depth = i.depth; from = feed_view i.from }
 
@@ -45,6 +49,7 @@ step_view s = record {
   retries = s.retries;
   jobs = s.jobs;
   after = s.after;
+  repeat = option_map repeat_view s.repeat;
 }
 
 abbrev pub flow_view : Flow → spec.Flow

@@ -3,9 +3,9 @@ ghost use Rattle.std.specs.Prelude.{◌≡◌, ◌∷◌, IfOk, map, option_map}
 ghost use Rattle.tv_value.specs.Activities as spec_activity;
 ghost use Rattle.tv_value.specs.Views.{strategy_view};
 ghost use Rattle.tv_flow.specs.Flows as spec;
-ghost use Rattle.tv_flow.specs.Views.{each, link_view, feed_view, activity_view, step_input_view, step_view, flow_view};
+ghost use Rattle.tv_flow.specs.Views.{each, link_view, feed_view, activity_view, repeat_view, step_input_view, step_view, flow_view};
 
-use crate::document::{Activity, Feed, Flow, Link, Step, StepInput};
+use crate::document::{Activity, Feed, Flow, Link, Repeat, Step, StepInput};
 use std::alloc::Global;
 use tv_value::{Copied, Name, NoMemory, Sequence, Tree};
 
@@ -46,6 +46,15 @@ fn each_alike<T: Alike>(
         copies.push((name, thing))?;
     }
     Ok(Sequence::of(copies))
+}
+
+fn repeat_alike(alloc: Global, repeat: &Option<Repeat>) -> Result<Option<Repeat>, NoMemory>
+    ensures { IfOk result (λ c. option_map repeat_view c ≡ option_map repeat_view repeat.now) }
+{
+    match repeat {
+        Some(repeat) => Ok(Some(repeat.alike(alloc)?)),
+        None => Ok(None),
+    }
 }
 
 fn given_alike(alloc: Global, tree: &Option<Tree>) -> Result<Option<Tree>, NoMemory>
@@ -106,6 +115,22 @@ impl Alike for Activity {
     }
 }
 
+impl Alike for Repeat {
+    ghost Seen = { spec_activity.Repeat };
+
+    ghost seen = { repeat_view };
+
+    fn alike(&self, alloc: Global) -> Result<Repeat, NoMemory> {
+        let service = self.service.copy(alloc)?;
+        let until = self.until.copy(alloc)?;
+        Ok(Repeat {
+            service,
+            until,
+            most: self.most,
+        })
+    }
+}
+
 impl Alike for StepInput {
     ghost Seen = { spec.StepInput };
 
@@ -131,6 +156,7 @@ impl Alike for Step {
         let strategy = given_alike(alloc, &self.strategy)?;
         let activities = all_alike(alloc, &self.activities)?;
         let after = self.after.copy(alloc)?;
+        let repeat = repeat_alike(alloc, &self.repeat)?;
         Ok(Step {
             inputs,
             outputs,
@@ -139,6 +165,7 @@ impl Alike for Step {
             retries: self.retries,
             jobs: self.jobs,
             after,
+            repeat,
         })
     }
 }

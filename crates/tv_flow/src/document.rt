@@ -3,7 +3,7 @@ ghost use Rattle.std.specs.Prelude.{◌≡◌, true};
 ghost use Rattle.tv_flow.specs.Formed.{is_formed};
 ghost use Rattle.tv_flow.specs.Views.{document_of};
 
-use tv_value::{Depths, Name, Names, Sequence, Tree, Value};
+use tv_value::{Depths, Name, Names, Sequence, Text, Tree, Value};
 
 /// A document: its flows, the one that is run, and the values given for that one's inputs.
 ///
@@ -11,7 +11,7 @@ use tv_value::{Depths, Name, Names, Sequence, Tree, Value};
 /// `inputs`. Lists of names with things are in byte order of the names, each once.
 #[derive(Drop)]
 pub struct Document {
-    /// The number of the document form: 1.
+    /// The number of the document form: 1, or 2 where steps may have loops and strategies prefix nodes.
     pub format: u32,
     /// The flow that is run.
     pub main: Name,
@@ -71,6 +71,19 @@ pub struct Step {
     pub jobs: u32,
     /// The steps that it runs after, at most 16.
     pub after: Names,
+    /// How each job goes round; with `None` it goes once. In format 2 alone.
+    pub repeat: Option<Repeat>,
+}
+
+/// A loop: a job goes round until a service says so.
+#[derive(Drop)]
+pub struct Repeat {
+    /// The service that is asked after each round.
+    pub service: Name,
+    /// The text that ends the loop.
+    pub until: Text,
+    /// The greatest number of rounds, 1 to 100.
+    pub most: u32,
 }
 
 /// An input port of a step.

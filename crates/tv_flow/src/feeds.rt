@@ -21,37 +21,39 @@ impl Formed for Link {
 
     ghost seen = { link_view };
 
-    ghost form = { link_form };
+    ghost form = { λ _. link_form };
 
     ghost keeps = { is_link };
 
-    fn formed(alloc: Global, at: &At<'_>, json: &Json) -> Result<Link, FormFault> {
+    ghost fits = { λ _ _. true };
+
+    fn formed(alloc: Global, at: &At<'_>, json: &Json, format: u32) -> Result<Link, FormFault> {
         if has(json, "input") {
-            input_link(alloc, at, json)
+            input_link(alloc, at, json, format)
         } else if has(json, "step") {
-            output_link(alloc, at, json)
+            output_link(alloc, at, json, format)
         } else {
-            input_link(alloc, at, json)
+            input_link(alloc, at, json, format)
         }
     }
 }
 
-fn input_link(alloc: Global, at: &At<'_>, json: &Json) -> Result<Link, FormFault>
+fn input_link(alloc: Global, at: &At<'_>, json: &Json, format: u32) -> Result<Link, FormFault>
     ensures read { IsForm link_view result (input_link (at_view at.now) (json_view json.now)) }
     ensures kept { IfOk result (λ l. is_link (link_view l) ≡ true) }
 {
     fields(alloc, at, json, &["input"])?;
-    let input = required(alloc, at, json, "input")?;
+    let input = required(alloc, at, json, "input", format)?;
     Ok(Link::Input(input))
 }
 
-fn output_link(alloc: Global, at: &At<'_>, json: &Json) -> Result<Link, FormFault>
+fn output_link(alloc: Global, at: &At<'_>, json: &Json, format: u32) -> Result<Link, FormFault>
     ensures read { IsForm link_view result (output_link (at_view at.now) (json_view json.now)) }
     ensures kept { IfOk result (λ l. is_link (link_view l) ≡ true) }
 {
     fields(alloc, at, json, &["step", "port"])?;
-    let step = required(alloc, at, json, "step")?;
-    let port = required(alloc, at, json, "port")?;
+    let step = required(alloc, at, json, "step", format)?;
+    let port = required(alloc, at, json, "port", format)?;
     Ok(Link::Output(step, port))
 }
 
@@ -60,49 +62,51 @@ impl Formed for Feed {
 
     ghost seen = { feed_view };
 
-    ghost form = { feed_form };
+    ghost form = { λ _. feed_form };
 
     ghost keeps = { is_feed };
 
-    fn formed(alloc: Global, at: &At<'_>, json: &Json) -> Result<Feed, FormFault> {
+    ghost fits = { λ _ _. true };
+
+    fn formed(alloc: Global, at: &At<'_>, json: &Json, format: u32) -> Result<Feed, FormFault> {
         if has(json, "input") || has(json, "step") {
-            link_feed(alloc, at, json)
+            link_feed(alloc, at, json, format)
         } else if has(json, "merge") {
-            merge_feed(alloc, at, json)
+            merge_feed(alloc, at, json, format)
         } else if has(json, "constant") {
-            constant_feed(alloc, at, json)
+            constant_feed(alloc, at, json, format)
         } else {
-            link_feed(alloc, at, json)
+            link_feed(alloc, at, json, format)
         }
     }
 }
 
-fn link_feed(alloc: Global, at: &At<'_>, json: &Json) -> Result<Feed, FormFault>
+fn link_feed(alloc: Global, at: &At<'_>, json: &Json, format: u32) -> Result<Feed, FormFault>
     ensures read { IsForm feed_view result (link_feed (at_view at.now) (json_view json.now)) }
     ensures kept { IfOk result (λ f. is_feed (feed_view f) ≡ true) }
 {
-    let link = Link::formed(alloc, at, json)?;
+    let link = Link::formed(alloc, at, json, format)?;
     match link {
         Link::Input(input) => Ok(Feed::Input(input)),
         Link::Output(step, port) => Ok(Feed::Output(step, port)),
     }
 }
 
-fn merge_feed(alloc: Global, at: &At<'_>, json: &Json) -> Result<Feed, FormFault>
+fn merge_feed(alloc: Global, at: &At<'_>, json: &Json, format: u32) -> Result<Feed, FormFault>
     ensures read { IsForm feed_view result (merge_feed (at_view at.now) (json_view json.now)) }
     ensures kept { IfOk result (λ f. is_feed (feed_view f) ≡ true) }
 {
     fields(alloc, at, json, &["merge"])?;
-    let links = required_array(alloc, at, json, "merge", 1, 16)?;
+    let links = required_array(alloc, at, json, "merge", 1, 16, format)?;
     Ok(Feed::Merge(links))
 }
 
-fn constant_feed(alloc: Global, at: &At<'_>, json: &Json) -> Result<Feed, FormFault>
+fn constant_feed(alloc: Global, at: &At<'_>, json: &Json, format: u32) -> Result<Feed, FormFault>
     ensures read { IsForm feed_view result (constant_feed (at_view at.now) (json_view json.now)) }
     ensures kept { IfOk result (λ f. is_feed (feed_view f) ≡ true) }
 {
     fields(alloc, at, json, &["constant"])?;
-    let value = required(alloc, at, json, "constant")?;
+    let value = required(alloc, at, json, "constant", format)?;
     Ok(Feed::Constant(value))
 }
 
@@ -111,14 +115,21 @@ impl Formed for StepInput {
 
     ghost seen = { step_input_view };
 
-    ghost form = { step_input_form };
+    ghost form = { λ _. step_input_form };
 
     ghost keeps = { is_step_input };
 
-    fn formed(alloc: Global, at: &At<'_>, json: &Json) -> Result<StepInput, FormFault> {
+    ghost fits = { λ _ _. true };
+
+    fn formed(
+        alloc: Global,
+        at: &At<'_>,
+        json: &Json,
+        format: u32,
+    ) -> Result<StepInput, FormFault> {
         fields(alloc, at, json, &["depth", "from"])?;
-        let depth = required(alloc, at, json, "depth")?;
-        let from = required(alloc, at, json, "from")?;
+        let depth = required(alloc, at, json, "depth", format)?;
+        let from = required(alloc, at, json, "from", format)?;
         Ok(StepInput { depth, from })
     }
 }

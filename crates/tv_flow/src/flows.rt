@@ -5,7 +5,7 @@ ghost use Rattle.tv_flow.specs.Flows as spec;
 ghost use Rattle.tv_flow.specs.PathViews.{at_view};
 ghost use Rattle.tv_flow.specs.Views.{flow_view};
 ghost use Rattle.tv_flow.specs.Answers.{IsForm};
-ghost use Rattle.tv_flow.specs.Formed.{is_flow};
+ghost use Rattle.tv_flow.specs.Formed.{is_flow, flow_fits};
 ghost use Rattle.tv_flow.specs.Forms.{flow_form};
 
 use crate::at::At;
@@ -26,11 +26,13 @@ impl Formed for Flow {
 
     ghost keeps = { is_flow };
 
-    fn formed(alloc: Global, at: &At<'_>, json: &Json) -> Result<Flow, FormFault> {
+    ghost fits = { flow_fits };
+
+    fn formed(alloc: Global, at: &At<'_>, json: &Json, format: u32) -> Result<Flow, FormFault> {
         fields(alloc, at, json, &["inputs", "steps", "outputs"])?;
-        let inputs = optional_depths(alloc, at, json, "inputs")?;
-        let steps = optional_named(alloc, at, json, "steps", 1000)?;
-        let outputs = required_named(alloc, at, json, "outputs", 0, 16)?;
+        let inputs = optional_depths(alloc, at, json, "inputs", format)?;
+        let steps = optional_named(alloc, at, json, "steps", 1000, format)?;
+        let outputs = required_named(alloc, at, json, "outputs", 0, 16, format)?;
         Ok(Flow {
             inputs,
             steps,

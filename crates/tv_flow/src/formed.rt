@@ -1,4 +1,4 @@
-//! Things that are read from a JSON tree at a place in the document.
+//! Things that are read from a JSON tree at a place in the document, each by the form that its format states.
 ghost use Rattle.std.specs.Prelude.{◌≡◌, ℕ, Bool, true, Result, IfOk};
 ghost use Rattle.serde_json.specs.Data.{Data};
 ghost use Rattle.serde_json.specs.View.{view as json_view};
@@ -18,20 +18,25 @@ use serde_json::Value as Json;
 use std::alloc::Global;
 use tv_value::{Name, Value, ValueFault, value_of};
 
-/// What has a form: a definition of what a JSON tree at a path stands for, and what all such things keep.
+/// What has a form: a definition of what a JSON tree at a path stands for in a document of some format, and what all
+/// such things keep.
 pub(crate) trait Formed: Sized + Drop {
     ghost Seen: { Type 0 };
 
     ghost seen: { Self → Seen };
 
-    ghost form: { Path → Data → Result Seen Complaint };
+    ghost form: { ℕ → Path → Data → Result Seen Complaint };
 
     ghost keeps: { Seen → Bool };
 
+    /// Whether it has nothing that the format hasn't.
+    ghost fits: { ℕ → Seen → Bool };
+
     /// What the JSON tree at this place stands for, or the first fault. Linear in the tree.
-    fn formed(alloc: Global, at: &At<'_>, json: &Json) -> Result<Self, FormFault>
-        ensures read { IsForm seen result (form (at_view at.now) (json_view json.now)) }
-        ensures kept { IfOk result (λ x. keeps (seen x) ≡ true) };
+    fn formed(alloc: Global, at: &At<'_>, json: &Json, format: u32) -> Result<Self, FormFault>
+        ensures read { IsForm seen result (form format (at_view at.now) (json_view json.now)) }
+        ensures kept { IfOk result (λ x. keeps (seen x) ≡ true) }
+        ensures fits { IfOk result (λ x. fits format (seen x) ≡ true) };
 }
 
 /// A depth.
@@ -40,11 +45,13 @@ impl Formed for u32 {
 
     ghost seen = { λ n. n };
 
-    ghost form = { depth_form };
+    ghost form = { λ _. depth_form };
 
     ghost keeps = { is_depth };
 
-    fn formed(alloc: Global, at: &At<'_>, json: &Json) -> Result<u32, FormFault> {
+    ghost fits = { λ _ _. true };
+
+    fn formed(alloc: Global, at: &At<'_>, json: &Json, _format: u32) -> Result<u32, FormFault> {
         number(alloc, at, json, 0, 32)
     }
 }
@@ -54,11 +61,13 @@ impl Formed for Name {
 
     ghost seen = { λ n. n };
 
-    ghost form = { name_form };
+    ghost form = { λ _. name_form };
 
     ghost keeps = { is_name };
 
-    fn formed(alloc: Global, at: &At<'_>, json: &Json) -> Result<Name, FormFault> {
+    ghost fits = { λ _ _. true };
+
+    fn formed(alloc: Global, at: &At<'_>, json: &Json, _format: u32) -> Result<Name, FormFault> {
         name(alloc, at, json)
     }
 }
@@ -68,11 +77,13 @@ impl Formed for Value {
 
     ghost seen = { value_view };
 
-    ghost form = { value_form };
+    ghost form = { λ _. value_form };
 
     ghost keeps = { is_value };
 
-    fn formed(alloc: Global, at: &At<'_>, json: &Json) -> Result<Value, FormFault> {
+    ghost fits = { λ _ _. true };
+
+    fn formed(alloc: Global, at: &At<'_>, json: &Json, _format: u32) -> Result<Value, FormFault> {
         match value_of(alloc, json) {
             Ok(value) => Ok(value),
             Err(ValueFault::NotText(place)) => Err(at.fault_at(alloc, FormKind::NotText, &place)),

@@ -33,8 +33,8 @@ mod steps;
 mod trees;
 
 pub use document::{
-    Activities, Activity, Document, Feed, Flow, FlowOutputs, Flows, Inputs, Link, Links, Step,
-    StepInput, StepInputs, Steps,
+    Activities, Activity, Document, Feed, Flow, FlowOutputs, Flows, Inputs, Link, Links, Repeat,
+    Step, StepInput, StepInputs, Steps,
 };
 pub use faults::{FormFault, FormKind, Part, Path};
 pub use reading::read_document;

@@ -27,15 +27,17 @@ pub(crate) fn named<T: Formed>(
     json: &Json,
     least: usize,
     most: usize,
+    format: u32,
 ) -> Result<Sequence<(Name, T)>, FormFault>
-    ensures read { IsForm (each T.seen) result (named_form T.form least most (at_view at.now)
+    ensures read { IsForm (each T.seen) result (named_form (T.form format) least most (at_view at.now)
         (json_view json.now)) }
     ensures kept { IfOk result (λ es. are_named T.keeps least most (each T.seen es) ≡ true) }
+    ensures fits { IfOk result (λ es. list_all (λ e. T.fits format e.1) (each T.seen es) ≡ true) }
 {
     match json.as_object() {
         Some(members) => {
             counted(alloc, at, member_count(members), least, most)?;
-            let entries = entries(alloc, at, members)?;
+            let entries = entries(alloc, at, members, format)?;
             Ok(Sequence::of(entries))
         }
         None => Err(at.fault(alloc, FormKind::WrongKind)),
@@ -83,17 +85,19 @@ fn entries<'a, T: Formed>(
     alloc: Global,
     at: &'a At<'a>,
     members: &'a Map<String, Json>,
+    format: u32,
 ) -> Result<Vec<(Name, T)>, FormFault>
-    ensures read { IsForm (λ v. each T.seen v.items) result (entries_form T.form (at_view at.now)
+    ensures read { IsForm (λ v. each T.seen v.items) result (entries_form (T.form format) (at_view at.now)
         (members_view members.now.entries)) }
     ensures kept { IfOk result (λ v. list_all (λ e. is_name e.0 && T.keeps e.1)
         (each T.seen v.items) ≡ true) }
+    ensures fits { IfOk result (λ v. list_all (λ e. T.fits format e.1) (each T.seen v.items) ≡ true) }
 {
     let mut things = Vec::new(alloc);
     for (key, value) in members {
         let there = At::Key(at, key.as_str());
         let name = name_or_not(alloc, &there, key.as_str())?;
-        let thing = T::formed(alloc, &there, value)?;
+        let thing = T::formed(alloc, &there, value, format)?;
         things.push((name, thing))?;
     }
     Ok(things)
@@ -106,32 +110,38 @@ pub(crate) fn array<T: Formed>(
     json: &Json,
     least: usize,
     most: usize,
+    format: u32,
 ) -> Result<Sequence<T>, FormFault>
     requires { most < 2 ^ 32 }
-    ensures read { IsForm (map T.seen) result (array_form T.form least most (at_view at.now)
+    ensures read { IsForm (map T.seen) result (array_form (T.form format) least most (at_view at.now)
         (json_view json.now)) }
     ensures kept { IfOk result (λ xs. are_listed T.keeps least most (map T.seen xs) ≡ true) }
 {
     match json.as_array() {
         Some(items) => {
             counted(alloc, at, item_count(items), least, most)?;
-            let things = things(alloc, at, items.as_slice())?;
+            let things = things(alloc, at, items.as_slice(), format)?;
             Ok(Sequence::of(things))
         }
         None => Err(at.fault(alloc, FormKind::WrongKind)),
     }
 }
 
-fn things<T: Formed>(alloc: Global, at: &At<'_>, items: &[Json]) -> Result<Vec<T>, FormFault>
+fn things<T: Formed>(
+    alloc: Global,
+    at: &At<'_>,
+    items: &[Json],
+    format: u32,
+) -> Result<Vec<T>, FormFault>
     requires { length items.now < 2 ^ 32 }
-    ensures read { IsForm (λ v. map T.seen v.items) result (items_form T.form (at_view at.now) 0
+    ensures read { IsForm (λ v. map T.seen v.items) result (items_form (T.form format) (at_view at.now) 0
         (json_items items.now)) }
     ensures kept { IfOk result (λ v. list_all T.keeps (map T.seen v.items) ≡ true) }
 {
     let mut things = Vec::new(alloc);
     for index in 0..items.len() {
         let there = At::Index(&*at, index as u32);
-        let thing = T::formed(alloc, &there, &items[index])?;
+        let thing = T::formed(alloc, &there, &items[index], format)?;
         things.push(thing)?;
     }
     Ok(things)

@@ -16,11 +16,16 @@ use std::cmp::Ordering;
 use tv_value::{Name, Names, NoMemory, Sequence};
 
 /// The names of an array of at most 16, in byte order, each once.
-pub(crate) fn names(alloc: Global, at: &At<'_>, json: &Json) -> Result<Names, FormFault>
+pub(crate) fn names(
+    alloc: Global,
+    at: &At<'_>,
+    json: &Json,
+    format: u32,
+) -> Result<Names, FormFault>
     ensures read { IsForm (λ ns. ns) result (names_form (at_view at.now) (json_view json.now)) }
     ensures kept { IfOk result (λ ns. are_names ns ≡ true) }
 {
-    let names = array(alloc, at, json, 0, 16)?;
+    let names = array(alloc, at, json, 0, 16, format)?;
     Ok(in_order(alloc, names)?)
 }
 

@@ -1,6 +1,6 @@
 //! Objects with stated fields.
 ghost use Rattle.std.specs.Prelude.{◌≡◌, ◌<◌, ◌^◌, [], IfOk, true, List, ℕ, map, option_map, string_bytes, not};
-ghost use Rattle.std.specs.List.{list_any, find};
+ghost use Rattle.std.specs.List.{list_all, list_any, find};
 ghost use Rattle.std.specs.BTreeMap.{keys};
 ghost use Rattle.serde_json.specs.View.{view as json_view, members_view};
 ghost use Rattle.tv_value.specs.Orders.{same_name};
@@ -9,16 +9,16 @@ ghost use Rattle.tv_flow.specs.PathViews.{at_view};
 ghost use Rattle.tv_flow.specs.Answers.{IsForm};
 ghost use Rattle.tv_flow.specs.Formed.{is_between, are_named, are_listed};
 ghost use Rattle.tv_flow.specs.Views.{each};
-ghost use Rattle.tv_flow.specs.Forms.{fields_form, unknown_key, required, optional, number_form, named_form, array_form, has};
+ghost use Rattle.tv_flow.specs.Forms.{fields_form, unknown_key, required, optional, text_form, number_form, named_form, array_form, has};
 
 use crate::at::At;
 use crate::faults::{FormFault, FormKind};
 use crate::formed::Formed;
 use crate::lists::{array, named};
-use crate::scalars::number;
+use crate::scalars::{number, text};
 use serde_json::{Map, Value as Json};
 use std::alloc::Global;
-use tv_value::{Name, Sequence};
+use tv_value::{Name, Sequence, Text};
 
 /// Whether it is an object that has a key.
 pub(crate) fn has(json: &Json, key: &str) -> bool
@@ -77,14 +77,32 @@ pub(crate) fn required<T: Formed>(
     at: &At<'_>,
     json: &Json,
     key: &str,
+    format: u32,
 ) -> Result<T, FormFault>
-    ensures read { IsForm T.seen result (required T.form key.now (at_view at.now)
+    ensures read { IsForm T.seen result (required (T.form format) key.now (at_view at.now)
         (json_view json.now)) }
     ensures kept { IfOk result (λ x. T.keeps (T.seen x) ≡ true) }
 {
     let there = At::Key(at, key);
     match json.get(key) {
-        Some(json) => T::formed(alloc, &there, json),
+        Some(json) => T::formed(alloc, &there, json, format),
+        None => Err(there.fault(alloc, FormKind::Missing)),
+    }
+}
+
+/// A text that must be there.
+pub(crate) fn required_text(
+    alloc: Global,
+    at: &At<'_>,
+    json: &Json,
+    key: &str,
+) -> Result<Text, FormFault>
+    ensures { IsForm (λ t. t) result (required text_form key.now (at_view at.now)
+        (json_view json.now)) }
+{
+    let there = At::Key(at, key);
+    match json.get(key) {
+        Some(json) => text(alloc, &there, json),
         None => Err(there.fault(alloc, FormKind::Missing)),
     }
 }
@@ -138,14 +156,16 @@ pub(crate) fn required_named<T: Formed>(
     key: &str,
     least: usize,
     most: usize,
+    format: u32,
 ) -> Result<Sequence<(Name, T)>, FormFault>
-    ensures read { IsForm (each T.seen) result (required (named_form T.form least most) key.now
+    ensures read { IsForm (each T.seen) result (required (named_form (T.form format) least most) key.now
         (at_view at.now) (json_view json.now)) }
     ensures kept { IfOk result (λ es. are_named T.keeps least most (each T.seen es) ≡ true) }
+    ensures fits { IfOk result (λ es. list_all (λ e. T.fits format e.1) (each T.seen es) ≡ true) }
 {
     let there = At::Key(at, key);
     match json.get(key) {
-        Some(json) => named(alloc, &there, json, least, most),
+        Some(json) => named(alloc, &there, json, least, most, format),
         None => Err(there.fault(alloc, FormKind::Missing)),
     }
 }
@@ -157,13 +177,15 @@ pub(crate) fn optional_named<T: Formed>(
     json: &Json,
     key: &str,
     most: usize,
+    format: u32,
 ) -> Result<Sequence<(Name, T)>, FormFault>
-    ensures read { IsForm (each T.seen) result (optional [] (named_form T.form 0 most) key.now
+    ensures read { IsForm (each T.seen) result (optional [] (named_form (T.form format) 0 most) key.now
         (at_view at.now) (json_view json.now)) }
     ensures kept { IfOk result (λ es. are_named T.keeps 0 most (each T.seen es) ≡ true) }
+    ensures fits { IfOk result (λ es. list_all (λ e. T.fits format e.1) (each T.seen es) ≡ true) }
 {
     match json.get(key) {
-        Some(json) => named(alloc, &At::Key(at, key), json, 0, most),
+        Some(json) => named(alloc, &At::Key(at, key), json, 0, most, format),
         None => Ok(Sequence::empty(alloc)),
     }
 }
@@ -176,15 +198,16 @@ pub(crate) fn required_array<T: Formed>(
     key: &str,
     least: usize,
     most: usize,
+    format: u32,
 ) -> Result<Sequence<T>, FormFault>
     requires { most < 2 ^ 32 }
-    ensures read { IsForm (map T.seen) result (required (array_form T.form least most) key.now
+    ensures read { IsForm (map T.seen) result (required (array_form (T.form format) least most) key.now
         (at_view at.now) (json_view json.now)) }
     ensures kept { IfOk result (λ xs. are_listed T.keeps least most (map T.seen xs) ≡ true) }
 {
     let there = At::Key(at, key);
     match json.get(key) {
-        Some(json) => array(alloc, &there, json, least, most),
+        Some(json) => array(alloc, &there, json, least, most, format),
         None => Err(there.fault(alloc, FormKind::Missing)),
     }
 }

@@ -22,10 +22,10 @@ pub fn read_document(alloc: Global, json: &Json) -> Result<Document, FormFault>
 {
     let at = &At::Top;
     fields(alloc, at, json, &["taverna", "main", "flows", "inputs"])?;
-    let format = required_number(alloc, at, json, "taverna", 1, 1)?;
-    let main = required(alloc, at, json, "main")?;
-    let flows = required_named(alloc, at, json, "flows", 1, 256)?;
-    let inputs = optional_named(alloc, at, json, "inputs", 16)?;
+    let format = required_number(alloc, at, json, "taverna", 1, 2)?;
+    let main = required(alloc, at, json, "main", format)?;
+    let flows = required_named(alloc, at, json, "flows", 1, 256, format)?;
+    let inputs = optional_named(alloc, at, json, "inputs", 16, format)?;
     Ok(Document {
         format,
         main,

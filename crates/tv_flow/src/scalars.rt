@@ -5,7 +5,7 @@ ghost use Rattle.serde_json.specs.View.{view as json_view, number_view};
 ghost use Rattle.tv_flow.specs.PathViews.{at_view};
 ghost use Rattle.tv_flow.specs.Answers.{IsForm};
 ghost use Rattle.tv_flow.specs.Formed.{is_between};
-ghost use Rattle.tv_flow.specs.Forms.{name_form, name_or_not, number_form, in_range, is_name, is_name_byte};
+ghost use Rattle.tv_flow.specs.Forms.{name_form, text_form, name_or_not, number_form, in_range, is_name, is_name_byte};
 
 use crate::at::At;
 use crate::faults::{FormFault, FormKind};
@@ -20,6 +20,16 @@ pub(crate) fn name(alloc: Global, at: &At<'_>, json: &Json) -> Result<Name, Form
 {
     match json.as_str() {
         Some(text) => name_or_not(alloc, at, text),
+        None => Err(at.fault(alloc, FormKind::WrongKind)),
+    }
+}
+
+/// A string, of any text.
+pub(crate) fn text(alloc: Global, at: &At<'_>, json: &Json) -> Result<Text, FormFault>
+    ensures { IsForm (λ t. t) result (text_form (at_view at.now) (json_view json.now)) }
+{
+    match json.as_str() {
+        Some(text) => Ok(Text::from_str(alloc, text)?),
         None => Err(at.fault(alloc, FormKind::WrongKind)),
     }
 }

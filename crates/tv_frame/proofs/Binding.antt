@@ -9,7 +9,7 @@ use Rattle.tv_lemmas.proofs.Members.{each_in, in-flat, in_each}
 use Rattle.tv_lemmas.proofs.Lists.{get-map, of-get_map}
 use Rattle.tv_value.specs.Nested.{Place, at, leaf, list, nodes}
 use Rattle.tv_value.specs.Orders.{named, same_name}
-use Rattle.tv_value.specs.Strategies.{Strategy, port, cross, dot, Strategies, no_strategies, strategy}
+use Rattle.tv_value.specs.Strategies.{Strategy, port, cross, dot, prefix, Strategies, no_strategies, strategy}
 use Rattle.tv_value.specs.Values.{Name, Value}
 use Rattle.tv_value.specs.Views.{strategy_view}
 use Rattle.tv_flow.specs.Flows.{Flow, Step, StepInput}
@@ -99,6 +99,12 @@ module _ (ports : Name → ℕ) where
     starts-fit (cross cs) begin a = cross-fit cs begin a
     starts-fit (dot no_strategies) begin a = tt
     starts-fit (dot (strategy c cs)) begin a = dot-fit (strategy c cs) begin (strategy_depth ports c) a.0 a.1 refl
+    starts-fit (prefix l r) begin a =
+        let d = strategy_depth ports l in
+        let e = strategy_depth ports r in
+        each-append (FitsIn (begin + e)) (starts ports begin l) (starts ports begin r)
+        (wider (begin + d) (begin + e) (let le = a.2 in omega (arith, le)) (starts ports begin l) (starts-fit l begin a.0))
+        (starts-fit r begin a.1)
 
     cross-fit : (cs : Strategies) (begin : ℕ) → AllDotsAgree ports cs → Each (FitsIn (begin + sum_of_depths ports cs)) (cross_starts ports begin cs)
     cross-fit no_strategies begin a = tt

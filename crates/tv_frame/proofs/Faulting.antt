@@ -10,6 +10,7 @@ use Rattle.tv_lemmas.proofs.Lists.{get-map}
 use Rattle.tv_value.specs.Nested.{Place, at}
 use Rattle.tv_value.specs.Orders.{named, same_name}
 use Rattle.tv_value.specs.Values.{ErrorDoc, JobName, Name, Value, fault_value}
+use Rattle.tv_value.specs.Views.{strategy_view}
 use Rattle.tv_flow.specs.Flows.{Flow, Step, StepInput}
 use Rattle.tv_strategy.specs.Conditions.{EachOnce, number_of}
 use Rattle.tv_strategy.specs.Measures.{DotsAgree, leaf_names}
@@ -21,7 +22,9 @@ use Rattle.tv_matching.specs.Matchers.{Outcome, fault_at}
 use Rattle.tv_matching.specs.Matchers as matchers
 use Rattle.tv_matching.specs.Told.{IsFit, Told}
 use Rattle.tv_match.specs.declared.matchers.Matcher.{Matcher}
+use Rattle.tv_match.specs.Filed.{filed}
 use Rattle.tv_match.specs.Seen.{matching}
+use Rattle.tv_match.proofs.Calls.{told-fit}
 use Rattle.tv_check.specs.declared.ports.Port.{Port}
 use Rattle.tv_check.specs.Feeds.{feed_numbered}
 use Rattle.tv_check.specs.Ports.{leaf_number, mismatches, port_among, ports_of}
@@ -74,7 +77,7 @@ same-number n (m ∷ ns) = ap (λ k. if same_name n m then 0 else suc k) (same-n
 
 fit-by : (v : View) (s : Name × Step) (o : Option Matcher) → HasMatcher v s o → IsSoundAt o → Each (IsFit (number_of (mismatches v.flow s.1))) (told_by o)
 fit-by v s None h sound = absurd h
-fit-by v s (Some m) h sound = subst (λ ms. Each (IsFit (number_of ms)) (matching m).told) h.mismatch_is sound.keeps.fit
+fit-by v s (Some m) h sound = subst (λ ms. Each (IsFit (number_of ms)) (matching m).told) h.mismatch_is (told-fit (strategy_view m.tree) m.mismatch (filed m.root) m.log m.out m.told m.given sound.keeps)
 
 module _ (flows : List (Name × Flow)) (plan : FlowPlan) (pool : Nodes) (f : Frame) (v : View) (n : ℕ) (s : Name × Step) (keeps : Keeps flows plan pool f v) (stands : IsStepAt v n s) (q : Place) (l : ℕ) (waits : In (fault_at q l) (waiting_of v.events s.0 (followed_by (matcher_at f.intakes n)))) where
   abbrev os : List Outcome

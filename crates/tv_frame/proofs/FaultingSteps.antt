@@ -10,7 +10,7 @@ use Rattle.tv_lemmas.specs.Members.{Each, In}
 use Rattle.tv_lemmas.proofs.Members.{each_in, in-map, in_each, of-map}
 use Rattle.tv_value.specs.Nested.{leaf, list, note, Place, at}
 use Rattle.tv_value.specs.Orders.{named, same_name}
-use Rattle.tv_value.specs.Strategies.{Strategy, Strategies, cross, dot, no_strategies, port, strategy}
+use Rattle.tv_value.specs.Strategies.{Strategy, Strategies, cross, dot, prefix, no_strategies, port, strategy}
 use Rattle.tv_value.specs.Values.{ErrorDoc, JobName, Name, fault, text}
 use Rattle.tv_value.proofs.NameLemmas.{same_name-refl}
 use Rattle.tv_flow.specs.Flows.{Flow, Step}
@@ -72,6 +72,9 @@ mutual
   starts-names ports b (port p) = refl
   starts-names ports b (cross cs) = cross-names ports b cs
   starts-names ports b (dot cs) = dot-names ports b cs
+  starts-names ports b (prefix l r) =
+      map-append (λ (x : Name × ℕ). x.0) (starts ports b l) (starts ports b r)
+      ∙ ap₂ (λ xs ys. xs ++ ys) (starts-names ports b l) (starts-names ports b r)
 
   cross-names : (ports : Name → ℕ) (b : ℕ) (cs : Strategies) → map (λ (x : Name × ℕ). x.0) (cross_starts ports b cs) ≡ all_leaf_names cs
   cross-names ports b no_strategies = refl

@@ -6,14 +6,14 @@ use Rattle.tv_lemmas.specs.Members.{In}
 use Rattle.tv_lemmas.proofs.Members.{each_in, in-append, in-left, in-right, of-flat, of-map}
 use Rattle.tv_value.specs.Nested.{Place}
 use Rattle.tv_value.specs.Orders.{same_name}
-use Rattle.tv_value.specs.Strategies.{Strategy, port, cross, dot, Strategies, no_strategies, strategy}
+use Rattle.tv_value.specs.Strategies.{Strategy, port, cross, dot, prefix, Strategies, no_strategies, strategy}
 use Rattle.tv_value.specs.Values.{Name}
 use Rattle.tv_strategy.specs.Measures.{AllDotsAgree, DotsAgree, HaveOneDepth, strategy_depth}
 use Rattle.tv_strategy.specs.Splits.{same_place}
 use Rattle.tv_strategy.proofs.PlaceLemmas.{same-equal}
 use Rattle.tv_matching.specs.Items.{Item, Kind, closes, ends, here, if_so, item, passes}
 use Rattle.tv_matching.specs.Levels.{AreLeveled, KindAt}
-use Rattle.tv_matching.specs.Matched.{below, bound, matched, matched_cross, matched_dot, meet, meet_kinds, replaced, same}
+use Rattle.tv_matching.specs.Matched.{below, bound, matched, matched_cross, matched_dot, meet, meet_below, reaches, meet_kinds, replaced, same}
 use Rattle.tv_matching.specs.Told.{Spot, Told, arrival, close, faulty, telling, told_kind, told_leaf, told_place, told_to}
 use Rattle.tv_matching.proofs.LawLemmas.{told-leveled}
 use Rattle.tv_matching.proofs.Members.{of-if}
@@ -97,18 +97,23 @@ module _ (ports : Name → ℕ) (told : Name → List (Item Spot Spot)) (leveled
       (r.0, r.1, r.2 ∙ ap (λ u. drop r.0 (b ++ u.place)) (sym p)))
   crossed-one c ls ms zs at b l x y level first rest (passes g) ek (inr m) = absurd m
 
-  met-one : (c : Strategy) (cs : Strategies) (at : ℕ) (b : Place) (y z : Item Spot Spot) → y.place ≡ z.place → Stands (starts ports at c) b y → Stands (dot_starts ports at cs) b z → (x : Item Spot Spot) (f : Spot) → x.place ≡ z.place → (k : Kind Spot Spot) → y.kind ≡ k → (j : Kind Spot Spot) → z.kind ≡ j → meet_kinds k j ≡ passes f → (o : ℕ) × In (f.0, o) (starts ports at c ++ dot_starts ports at cs) × (f.1 ≡ drop o (b ++ x.place))
-  met-one c cs at b y z ep first second x f ex (ends d) ek j ej e =
-      let r = stands-right (starts ports at c) (dot_starts ports at cs) b z second f (ej ∙ bound-fault d j f e) in
+  -- what two make together, where a list or fault of the first has the place of the second
+  met-one : (ls ms : List (Name × ℕ)) (b : Place) (y z : Item Spot Spot) → (k : Kind Spot Spot) → y.kind ≡ k → ((g : Spot) → k ≡ passes g → y.place ≡ z.place) → Stands ls b y → Stands ms b z → (x : Item Spot Spot) (f : Spot) → x.place ≡ z.place → (j : Kind Spot Spot) → z.kind ≡ j → meet_kinds k j ≡ passes f → (o : ℕ) × In (f.0, o) (ls ++ ms) × (f.1 ≡ drop o (b ++ x.place))
+  met-one ls ms b y z (ends d) ek ep first second x f ex j ej e =
+      let r = stands-right ls ms b z second f (ej ∙ bound-fault d j f e) in
       (r.0, r.1, r.2 ∙ ap (λ q. drop r.0 (b ++ q)) (sym ex))
-  met-one c cs at b y z ep first second x f ex (passes g) ek j ej e =
-      let r = stands-left (starts ports at c) (dot_starts ports at cs) b y first f (ek ∙ e) in
-      (r.0, r.1, r.2 ∙ ap (λ q. drop r.0 (b ++ q)) (ep ∙ sym ex))
-  met-one c cs at b y z ep first second x f ex (closes m) ek (ends d) ej e = absurd cc
-  met-one c cs at b y z ep first second x f ex (closes m) ek (closes n) ej e = absurd cc
-  met-one c cs at b y z ep first second x f ex (closes m) ek (passes g) ej e =
-      let r = stands-right (starts ports at c) (dot_starts ports at cs) b z second f (ej ∙ e) in
+  met-one ls ms b y z (passes g) ek ep first second x f ex j ej e =
+      let r = stands-left ls ms b y first f (ek ∙ e) in
+      (r.0, r.1, r.2 ∙ ap (λ q. drop r.0 (b ++ q)) (ep g refl ∙ sym ex))
+  met-one ls ms b y z (closes m) ek ep first second x f ex (ends d) ej e = absurd cc
+  met-one ls ms b y z (closes m) ek ep first second x f ex (closes n) ej e = absurd cc
+  met-one ls ms b y z (closes m) ek ep first second x f ex (passes g) ej e =
+      let r = stands-right ls ms b z second f (ej ∙ e) in
       (r.0, r.1, r.2 ∙ ap (λ q. drop r.0 (b ++ q)) (sym ex))
+
+  -- in a prefix node a fault of the first meets what stands at its own place
+  fault-place : (y z : Item Spot Spot) → reaches y.kind y.place z.place ≡ true → (g : Spot) → y.kind ≡ passes g → y.place ≡ z.place
+  fault-place y z h g e = same-equal y.place z.place (subst (λ k. reaches k y.place z.place ≡ true) e h)
 
   mutual
     from-starts : (s : Strategy) (at : ℕ) (b : Place) → length b ≡ at → DotsAgree ports s → (x : Item Spot Spot) → In x (matched told s) → Stands (starts ports at s) b x
@@ -117,6 +122,15 @@ module _ (ports : Name → ℕ) (told : Name → List (Item Spot Spot)) (leveled
         (at, inl (ap (λ g. (g.0, at)) h), ap (λ g. g.1) h ∙ sym (drop_at b x.place at l))
     from-starts (cross cs) at b l a x m = from-cross cs at b l a x m
     from-starts (dot cs) at b l a x m = from-dot cs at b l a.0 a.1 x m
+    from-starts (prefix c d) at b l a x m =
+        let r = of-flat (λ y. flat_map (meet_below y) (matched told d)) x (matched told c) m in
+        let s = of-flat (meet_below r.0) x (matched told d) r.2 in
+        let t = of-if (reaches r.0.kind r.0.place s.0.place) (item s.0.place (meet_kinds r.0.kind s.0.kind)) x s.2 in
+        let first = from-starts c at b l a.0 r.0 r.1 in
+        let second = from-starts d at b l a.1 s.0 s.1 in
+        λ f e.
+        met-one (starts ports at c) (starts ports at d) b r.0 s.0 r.0.kind refl (fault-place r.0 s.0 t.0) first second x f
+        (ap (λ u. u.place) t.1) s.0.kind refl (ap (λ u. u.kind) (sym t.1) ∙ e)
 
     from-cross : (cs : Strategies) (at : ℕ) (b : Place) → length b ≡ at → AllDotsAgree ports cs → (x : Item Spot Spot) → In x (matched_cross told cs) → Stands (cross_starts ports at cs) b x
     from-cross no_strategies at b l a x (inl p) = λ f e. absurd (no_end x f p e)
@@ -139,8 +153,8 @@ module _ (ports : Name → ℕ) (told : Name → List (Item Spot Spot)) (leveled
         let first = from-starts c at b l a.0 r.0 r.1 in
         let second = from-dot (strategy d ds) at b l a.1 o.1 s.0 s.1 in
         λ f e.
-        met-one c (strategy d ds) at b r.0 s.0 (same-equal r.0.place s.0.place t.0) first second x f
-        (ap (λ u. u.place) t.1) r.0.kind refl s.0.kind refl (ap (λ u. u.kind) (sym t.1) ∙ e)
+        met-one (starts ports at c) (dot_starts ports at (strategy d ds)) b r.0 s.0 r.0.kind refl (λ g h. same-equal r.0.place s.0.place t.0) first second x f
+        (ap (λ u. u.place) t.1) s.0.kind refl (ap (λ u. u.kind) (sym t.1) ∙ e)
 
 pub faults-stand : FaultsStandFromStarts
 faults-stand ports s a ts fit x m f e = from-starts ports (told_to ts) (told-leveled ports ts fit) (told-own ts) s 0 [] refl a x m f e

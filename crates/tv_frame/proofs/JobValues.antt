@@ -10,7 +10,7 @@ use Rattle.tv_lemmas.specs.Members.{Each, In}
 use Rattle.tv_lemmas.proofs.Members.{in_each}
 use Rattle.tv_value.specs.Nested.{Place, Trees, at, item_at, leaf, list, map_trees, no_trees, note, notes, tree}
 use Rattle.tv_value.specs.Orders.{named}
-use Rattle.tv_value.specs.Strategies.{Strategies, Strategy, cross, dot, no_strategies, port, strategy}
+use Rattle.tv_value.specs.Strategies.{Strategies, Strategy, cross, dot, prefix, no_strategies, port, strategy}
 use Rattle.tv_value.specs.Values.{Name, Scalar, fault, text}
 use Rattle.tv_flow.specs.Flows.{Flow, Step}
 use Rattle.tv_strategy.specs.Conditions.{number_of}
@@ -124,6 +124,7 @@ module _ (known : Origin → Bool) where
       iteration-binds (port p) = fed p
       iteration-binds (cross cs) = cross_of-binds cs
       iteration-binds (dot cs) = dot_of-binds cs
+      iteration-binds (prefix l r) = paired-binds (iteration ports l) (iteration ports r) (iteration-binds l) (iteration-binds r)
 
       cross_of-binds : (cs : Strategies) → Binds (cross_of ports cs)
       cross_of-binds no_strategies = λ h. tt

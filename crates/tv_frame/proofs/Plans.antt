@@ -19,12 +19,12 @@ use Rattle.tv_flow.specs.Flows.{Document, Flow, Step, StepInput}
 use Rattle.tv_flow.specs.Formed.{is_ascending, is_formed, is_given_tree, is_step, is_step_input}
 use Rattle.tv_strategy.specs.Conditions.{AllDotsAreFilled, EachOnce, Suits, names_in, number_of, times}
 use Rattle.tv_strategy.specs.Measures.{DotsAgree, all_leaf_names, leaf_names, strategy_depth}
-use Rattle.tv_naming.specs.Faulty.{Where, at_input, at_output}
+use Rattle.tv_naming.specs.Faulty.{Where, at_input, at_loop, at_output}
 use Rattle.tv_naming.specs.Naming.{fits_ports, numbered}
 use Rattle.tv_naming.proofs.ByPosition.{names_of}
 use Rattle.tv_naming.proofs.FormedParts.{ascending, few, passes, step-at, step-inputs, steps-ascend}
 use Rattle.tv_model.specs.instance.CheckedDepths.{StepDepths, feed_depth, flow_depths, port_depth, step_depths, steps_depths}
-use Rattle.tv_check.specs.Depthwise.{depth_complaints, depth_most, fed_complaints, feed_depths, flow_complaints, nested_complaints, past_limit, step_complaints, steps_complaints}
+use Rattle.tv_check.specs.Depthwise.{depth_complaints, depth_most, fed_complaints, feed_depths, flow_complaints, loop_complaints, nested_complaints, past_limit, step_complaints, steps_complaints}
 use Rattle.tv_check.specs.Cycles.{link_cycle_complaints, nesting_complaints}
 use Rattle.tv_model.specs.instance.Ranks.{ranked}
 use Rattle.tv_model.specs.instance.Steps.{ports_of, strategy_of}
@@ -84,7 +84,8 @@ module _ (given : List (Name × ℕ)) where
   steps-within d n all done so_far [] o h e = tt
   steps-within d n all done so_far ((m, s) ∷ ss) o h e =
       let p = append-none (step_complaints d n given so_far (m, s)) (steps_complaints d n given (step_depths given so_far (m, s) ∷ so_far) ss) h in
-      let q = append-none _ (flat_map (nested_complaints d n m s) (numbered 0 s.activities)) p.0 in
+      let rounds = append-none _ (loop_complaints (at_loop n m) s) p.0 in
+      let q = append-none _ (flat_map (nested_complaints d n m s) (numbered 0 s.activities)) rounds.0 in
       let r = append-none _ (flat_map (λ o. past_limit (at_output n m o.0) (o.1 + strategy_depth (port_depth given so_far s) (strategy_of s))) s.outputs) q.0 in
       let t = append-none (flat_map (λ i. fed_complaints given so_far (at_input n m i.0) i.1.from) s.inputs) _ r.0 in
       let settled : Each (λ i. feed_depth given all i.1.from ≡ feed_depth given so_far i.1.from) s.inputs = subst (λ ds. Each (λ i. feed_depth given ds i.1.from ≡ feed_depth given so_far i.1.from) s.inputs) e (step-settled given s so_far ((m, s) ∷ ss) (none-feed done (m, s) ss o)) in
@@ -214,7 +215,7 @@ module _ (f : Flow) (of : IsOfDocument f) (k : ℕ) (s : Name × Step) (at : sli
 
   -- the levels of a step's ports suit its strategy
   pub step-suits : Suits (mismatches f s.1) (strategy_of s.1)
-  step-suits = by-strategy s.1.strategy (and_parts _ _ (and_parts _ _ (and_parts _ _ (and_parts _ _ (and_parts _ _ is-step).0).0).0).0).1 (passes (λ (t : Name × Step). has_fitting t.1) f.steps k s (fitting f of) at)
+  step-suits = by-strategy s.1.strategy (and_parts _ _ (and_parts _ _ (and_parts _ _ (and_parts _ _ (and_parts _ _ (and_parts _ _ is-step).0).0).0).0).0).1 (passes (λ (t : Name × Step). has_fitting t.1) f.steps k s (fitting f of) at)
 
   -- no name stands at two of its leaves
   pub leaves-differ : EachOnce (leaf_names (strategy_of s.1)) (leaf_names (strategy_of s.1))

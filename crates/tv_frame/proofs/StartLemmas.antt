@@ -3,7 +3,7 @@ use Rattle.std.specs.Prelude.{◌≡◌, refl, ℕ, ◌+◌, [], ◌++◌, drop,
 use Rattle.std.proofs.Common.{arith, ap, sym, ◌∙◌}
 use Rattle.std.proofs.lemmas.List.{drop-drop, drop-take, take-take, take_all, map-append}
 use Rattle.tv_value.specs.Nested.{Place}
-use Rattle.tv_value.specs.Strategies.{Strategy, port, cross, dot, Strategies, no_strategies, strategy}
+use Rattle.tv_value.specs.Strategies.{Strategy, port, cross, dot, prefix, Strategies, no_strategies, strategy}
 use Rattle.tv_value.specs.Values.{Name}
 use Rattle.tv_strategy.specs.Measures.{AllDotsAgree, DotsAgree, HaveOneDepth, first_depth, strategy_depth, sum_of_depths}
 use Rattle.tv_strategy.specs.Splits.{split, split_cross, split_dot}
@@ -20,6 +20,13 @@ module _ (ports : Name → ℕ) (q : Place) where
     split-parts (cross cs) at a = cross-parts cs at a
     split-parts (dot no_strategies) at a = refl
     split-parts (dot (strategy c cs)) at a = dot-parts (strategy c cs) at (strategy_depth ports c) a.0 a.1 refl
+    split-parts (prefix l r) at a =
+        let n = strategy_depth ports l in
+        let m = strategy_depth ports r in
+        ap (λ p. split ports l p ++ split ports r (take m (drop at q))) (take-take n m (drop at q) a.2)
+        ∙ ap (λ xs. xs ++ split ports r (take m (drop at q))) (split-parts l at a.0)
+        ∙ ap (λ xs. map part (starts ports at l) ++ xs) (split-parts r at a.1)
+        ∙ sym (map-append part (starts ports at l) (starts ports at r))
 
     cross-parts : (cs : Strategies) (at : ℕ) → AllDotsAgree ports cs → split_cross ports cs (take (sum_of_depths ports cs) (drop at q)) ≡ map part (cross_starts ports at cs)
     cross-parts no_strategies at a = refl

@@ -1,6 +1,6 @@
 //! The index for each leaf.
 ghost use Rattle.std.specs.Prelude.{◌≡◌, ◌++◌, ◌+◌, ◌<◌, ◌^◌, IfOk, OnOk, map};
-ghost use Rattle.tv_value.specs.Strategies.{cross, dot};
+ghost use Rattle.tv_value.specs.Strategies.{cross, dot, prefix};
 ghost use Rattle.tv_value.specs.Views.{strategy_view};
 ghost use Rattle.tv_strategy.specs.Conditions.{number_of, sum_over};
 ghost use Rattle.tv_strategy.specs.Measures.{all_leaf_names, leaf_names, sum_of_depths, first_depth, strategy_depth};
@@ -45,7 +45,29 @@ fn push_starts(
         }
         Tree::Cross(trees) => push_cross(trees.as_slice(), mismatch, start, indices),
         Tree::Dot(trees) => push_dot(trees.as_slice(), mismatch, start, indices),
+        Tree::Prefix(left, right) => push_prefix(left, right, mismatch, start, indices),
     }
+}
+
+/// Both children begin together.
+#[cycle(starts)]
+fn push_prefix(
+    left: &Tree,
+    right: &Tree,
+    mismatch: &Depths,
+    start: u32,
+    indices: &mut Vec<u32>,
+) -> Result<u32, NoMemory>
+    requires { start + sum_over (number_of mismatch.now) (leaf_names
+        (prefix (strategy_view left.now) (strategy_view right.now))) < 2 ^ 32 }
+    ensures indices { OnOk result (indices.new.items ≡ indices.old.items
+        ++ map (λ x. x.1) (starts (number_of mismatch.now) start
+        (prefix (strategy_view left.now) (strategy_view right.now)))) }
+    ensures depth { IfOk result (λ d. d ≡ strategy_depth (number_of mismatch.now)
+        (prefix (strategy_view left.now) (strategy_view right.now))) }
+{
+    push_starts(left, mismatch, start, indices)?;
+    push_starts(right, mismatch, start, indices)
 }
 
 /// Each child begins where the one before ends.

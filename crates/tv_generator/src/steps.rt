@@ -21,6 +21,7 @@ fn asks(alloc: Global, service: &str, inputs: StepInputs) -> Result<Step, NoMemo
         retries: 0,
         jobs: 1,
         after: Sequence::empty(alloc),
+        repeat: None,
     })
 }
 

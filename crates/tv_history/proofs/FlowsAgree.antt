@@ -20,14 +20,14 @@ use Rattle.tv_flow.specs.Forms.{is_name}
 use Rattle.tv_flow.specs.Formed.{is_value, is_feed, is_step_input, is_step, is_flow}
 use Rattle.tv_strategy.specs.Measures.{Difference, first_difference, strategy_depth, leaf_names}
 use Rattle.tv_strategy.proofs.LawLemmas.{agree-exactly}
-use Rattle.tv_naming.specs.Faulty.{Where, with_numbers, merge_depths, too_deep, at_input, at_step, at_output, at_flow_output}
+use Rattle.tv_naming.specs.Faulty.{Where, with_numbers, merge_depths, too_deep, at_input, at_loop, at_step, at_output, at_flow_output}
 use Rattle.tv_naming.specs.Naming.{complain_if, fits_ports, numbered}
 use Rattle.tv_value.proofs.NameLemmas.{same_name-is}
 use Rattle.tv_naming.proofs.FormedParts.{all-pass, ascending, flow-steps, flow-outputs, step-inputs}
 use Rattle.tv_model.specs.instance.Ranks.{ranked}
 use Rattle.tv_model.specs.instance.Steps.{strategy_of, ports_of, declared_depths}
 use Rattle.tv_model.specs.instance.CheckedDepths.{StepDepths, constant_depth, link_depth, feed_depth, port_depth, step_depths, flow_depths, output_depths, measured_outputs}
-use Rattle.tv_check.specs.Depthwise.{depth_most, past_limit, merge_difference, fed_complaints, same_ports, fits_flow, nested_complaints, dot_complaints, step_complaints, steps_complaints, flow_complaints}
+use Rattle.tv_check.specs.Depthwise.{depth_most, past_limit, merge_difference, fed_complaints, same_ports, fits_flow, nested_complaints, node_complaints, loop_complaints, step_complaints, steps_complaints, flow_complaints}
 use Rattle.tv_check.specs.Tables.{has_fitting}
 use Rattle.tv_check.proofs.PortLemmas.{default-ports}
 use Rattle.tv_check.proofs.Inside.{each-all, each-by, silent}
@@ -96,7 +96,7 @@ module _ (given : List (Name × ℕ)) (so_far : List StepDepths) where
 
 -- ---- strategies
 
-pub dots-silent : (w : Where) (o : Option Difference) → dot_complaints w o ≡ [] → o ≡ None
+pub dots-silent : (w : Where) (o : Option Difference) → node_complaints w o ≡ [] → o ≡ None
 dots-silent w None h = refl
 dots-silent w (Some e) h = cc
 
@@ -182,7 +182,8 @@ IsSoundStep s = (is_step s.1 ≡ true) × (has_fitting s.1 ≡ true)
 
 pub step-agrees : (d : Document) (f : Name) (given : List (Name × ℕ)) (so_far : List StepDepths) (s : Name × Step) → IsSoundStep s → step_complaints d f given so_far s ≡ [] → StepAgrees d.flows given so_far s.1
 step-agrees d f given so_far (n, s) sound h =
-    let p = append-none _ (flat_map (nested_complaints d f n s) (numbered 0 s.activities)) h in
+    let rounds = append-none _ (loop_complaints (at_loop f n) s) h in
+    let p = append-none _ (flat_map (nested_complaints d f n s) (numbered 0 s.activities)) rounds.0 in
     let q = append-none _ (flat_map (λ o. past_limit (at_output f n o.0) (o.1 + strategy_depth (port_depth given so_far s) (strategy_of s))) s.outputs) p.0 in
     let r = append-none (flat_map (λ i. fed_complaints given so_far (at_input f n i.0) i.1.from) s.inputs) _ q.0 in
     let ins = step-inputs s sound.0 in

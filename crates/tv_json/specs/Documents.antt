@@ -1,11 +1,11 @@
--- Documents as JSON: every field of the document form, defaults included, but an absent strategy.
+-- Documents as JSON: every field of the document form, defaults included, but an absent strategy and an absent loop.
 use Rattle.std.specs.Prelude.{ℕ, List, [], ◌∷◌, ◌++◌, map, codes, Option, Some, None}
 use Rattle.serde_json.specs.Data.{Data, unsigned, number, string, array, object, Items, no_items, item, Members, no_members, put}
 use Rattle.serde_json.specs.View.{items_of}
 use Rattle.tv_value.specs.Values.{Text, Name}
-use Rattle.tv_value.specs.Strategies.{Strategy, port, cross, dot, Strategies, no_strategies, strategy}
-use Rattle.tv_value.specs.Activities.{Activity, service, nested}
-use Rattle.tv_value.specs.Printed.{members, strings, json}
+use Rattle.tv_value.specs.Strategies.{Strategy, port, cross, dot, prefix, Strategies, no_strategies, strategy}
+use Rattle.tv_value.specs.Activities.{Activity, Repeat, service, nested}
+use Rattle.tv_value.specs.Printed.{members, json}
 use Rattle.tv_flow.specs.Flows.{Link, input, output, Feed, link, merge, constant, StepInput, Step, Flow, Document}
 
 abbrev pub number_json : ℕ → Data
@@ -48,6 +48,8 @@ abbrev mutual
   tree_json (port n) = string n
   tree_json (cross ts) = only (codes "cross") (array (all_trees ts))
   tree_json (dot ts) = only (codes "dot") (array (all_trees ts))
+  tree_json (prefix l r) = only (codes "prefix")
+      (array (item (tree_json l) (item (tree_json r) no_items)))
 
   pub all_trees : Strategies → Items
   all_trees no_strategies = no_items
@@ -58,19 +60,36 @@ abbrev pub strategy_member : Option Strategy → List (Text × Data)
 strategy_member None = []
 strategy_member (Some t) = (codes "strategy", tree_json t) ∷ []
 
--- all fields of a step but its strategy
-abbrev pub step_members : Step → List (Text × Data)
-step_members s =
+abbrev pub loop_json : Repeat → Data
+loop_json r =
+    object (members
+    ((codes "most", number_json r.most)
+    ∷ (codes "service", string r.service)
+    ∷ (codes "until", string r.until)
+    ∷ []))
+
+-- a given loop, which stands in the middle of a step
+abbrev pub loop_member : Option Repeat → List (Text × Data)
+loop_member None = []
+loop_member (Some r) = (codes "loop", loop_json r) ∷ []
+
+-- the fields of a step before its loop, and those after it
+abbrev pub early_members : Step → List (Text × Data)
+early_members s =
     (codes "activities", array_json activity_json s.activities)
     ∷ (codes "after", array_json string s.after)
     ∷ (codes "inputs", named_json step_input_json s.inputs)
     ∷ (codes "jobs", number_json s.jobs)
-    ∷ (codes "outputs", named_json number_json s.outputs)
-    ∷ (codes "retries", number_json s.retries)
     ∷ []
 
+abbrev pub late_members : Step → List (Text × Data)
+late_members s =
+    (codes "outputs", named_json number_json s.outputs)
+    ∷ (codes "retries", number_json s.retries)
+    ∷ strategy_member s.strategy
+
 abbrev pub step_json : Step → Data
-step_json s = object (members (step_members s ++ strategy_member s.strategy))
+step_json s = object (members (early_members s ++ (loop_member s.repeat ++ late_members s)))
 
 abbrev pub flow_json : Flow → Data
 flow_json f =

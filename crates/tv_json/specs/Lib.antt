@@ -1,2 +1,3 @@
 pub mod Joined
 pub mod Documents
+pub mod DocumentLines

@@ -1,45 +1,52 @@
 //! Documents as JSON.
-ghost use Rattle.std.specs.Prelude.{◌≡◌, IfOk, [], ◌∷◌, codes, map, option_map, Ok, length, ◌≤◌};
-ghost use Rattle.serde_json.specs.Data.{Data, string, number, unsigned, object, array};
+ghost use Rattle.std.specs.Prelude.{◌≡◌, IfOk, [], ◌∷◌, ◌++◌, None, codes, map, option_map, Ok, length, ◌≤◌};
+ghost use Rattle.serde_json.specs.Data.{Data, string, number, unsigned, object, array, item, no_items};
 ghost use Rattle.serde_json.specs.View.{view as json_view, items_view as json_items, members_view};
 ghost use Rattle.tv_value.specs.Activities as activities;
 ghost use Rattle.tv_value.specs.Printed.{members};
 ghost use Rattle.tv_value.specs.Views.{strategy_view, strategies_view};
 ghost use Rattle.tv_flow.specs.Flows as spec;
+ghost use Rattle.tv_flow.specs.Flows.{upgraded};
 ghost use Rattle.tv_flow.specs.Forms.{form_of};
-ghost use Rattle.tv_flow.specs.Views.{link_view, feed_view, step_input_view, activity_view, step_view, flow_view, each};
+ghost use Rattle.tv_flow.specs.Views.{link_view, feed_view, step_input_view, activity_view, repeat_view, step_view, flow_view, each};
 ghost use Rattle.tv_flow.specs.DocumentViews.{document_view};
-ghost use Rattle.tv_json.specs.Documents.{link_json, feed_json, step_input_json, activity_json, tree_json, all_trees, step_json, flow_json, document_json, only, step_members, array_json, named_json, number_json};
+ghost use Rattle.tv_json.specs.Documents.{link_json, feed_json, step_input_json, activity_json, tree_json, all_trees, step_json, flow_json, document_json, only, loop_json, early_members, late_members, array_json, named_json, number_json};
 
 use crate::printed::{Printed, array, named};
 use serde_json::{Map, Value as Json, json};
 use std::alloc::{AllocError, Global};
-use tv_flow::{Activity, Document, Feed, Flow, Link, Step, StepInput};
+use tv_flow::{Activity, Document, Feed, Flow, Link, Repeat, Step, StepInput};
 use tv_value::{Depths, Names, NoMemory, Tree, Trees};
 
-/// The JSON tree of a document: every field of the document form, defaults included, but an absent strategy.
-/// It reads back as the same document, where that has at most 16 inputs. Linear in the document, and in the logarithm of the number of names in each object.
+/// The JSON tree of a document: every field of the document form, defaults included, but an absent strategy
+/// and an absent loop. It reads back as the same document, where that has at most 16 inputs. Linear in the document, and in the logarithm of the number of names in each object.
 pub fn json_of_document(alloc: Global, document: &Document) -> Result<Json, NoMemory>
     ensures json { IfOk result (λ j. json_view j ≡ document_json (document_view document.now)) }
     ensures reads_back { IfOk result (λ j. length document.now.inputs ≤ 16 → form_of (json_view j)
         ≡ Ok (document_view document.now)) }
 {
-    let json = document_tree(alloc, document)?;
+    let json = document_tree(alloc, document, document.format)?;
     Ok(json)
 }
 
-fn document_tree(alloc: Global, document: &Document) -> Result<Json, NoMemory>
-    ensures { IfOk result (λ j. json_view j ≡ document_json (document_view document.now)) }
+/// The JSON tree of the same document in format 2. Otherwise as `json_of_document`.
+pub fn json_of_upgraded(alloc: Global, document: &Document) -> Result<Json, NoMemory>
+    ensures json { IfOk result (λ j. json_view j
+        ≡ document_json (upgraded (document_view document.now))) }
+    ensures reads_back { IfOk result (λ j. length document.now.inputs ≤ 16 → form_of (json_view j)
+        ≡ Ok (upgraded (document_view document.now))) }
+{
+    let json = document_tree(alloc, document, 2)?;
+    Ok(json)
+}
+
+fn document_tree(alloc: Global, document: &Document, format: u32) -> Result<Json, NoMemory>
+    ensures { IfOk result (λ j. json_view j
+        ≡ document_json (record (document_view document.now) { format = format })) }
 {
     let flows = named(alloc, document.flows.as_slice())?;
     let inputs = named(alloc, document.inputs.as_slice())?;
-    Ok(document_object(
-        alloc,
-        flows,
-        inputs,
-        document.main.as_str(),
-        document.format,
-    )?)
+    Ok(document_object(alloc, flows, inputs, document.main.as_str(), format)?)
 }
 
 fn document_object(
@@ -142,7 +149,24 @@ fn json_of_tree(alloc: Global, tree: &Tree) -> Result<Json, NoMemory>
         Tree::Leaf(port) => Ok(Json::try_from_str(alloc, port.as_str())?),
         Tree::Cross(trees) => Ok(only(alloc, "cross", Json::Array(json_of_trees(alloc, trees)?))?),
         Tree::Dot(trees) => Ok(only(alloc, "dot", Json::Array(json_of_trees(alloc, trees)?))?),
+        Tree::Prefix(left, right) => {
+            let left = json_of_tree(alloc, left)?;
+            let right = json_of_tree(alloc, right)?;
+            let pair = two(alloc, left, right)?;
+            Ok(only(alloc, "prefix", pair)?)
+        }
     }
+}
+
+/// An array of two.
+fn two(alloc: Global, first: Json, second: Json) -> Result<Json, NoMemory>
+    ensures { IfOk result (λ j. json_view j
+        ≡ array (item (json_view first) (item (json_view second) no_items))) }
+{
+    let mut items = Vec::with_capacity(alloc, 2)?;
+    items.push(first)?;
+    items.push(second)?;
+    Ok(Json::Array(items))
 }
 
 #[cycle(trees)]
@@ -164,11 +188,11 @@ impl Printed for Step {
     ghost printed = { step_json };
 
     fn print(&self, alloc: Global) -> Result<Json, NoMemory> {
-        let mut members = required_fields(alloc, self)?;
-        match &self.strategy {
-            Some(tree) => {
-                let tree = json_of_tree(alloc, tree)?;
-                serde_json::put(&mut members, alloc, "strategy", tree)?;
+        let mut members = plain_fields(alloc, self)?;
+        match &self.repeat {
+            Some(repeat) => {
+                let repeat = repeat.print(alloc)?;
+                serde_json::put(&mut members, alloc, "loop", repeat)?;
                 Ok(Json::Object(members))
             }
             None => Ok(Json::Object(members)),
@@ -176,10 +200,41 @@ impl Printed for Step {
     }
 }
 
-/// All fields of a step but its strategy.
+impl Printed for Repeat {
+    ghost Seen = { activities.Repeat };
+
+    ghost seen = { repeat_view };
+
+    ghost printed = { loop_json };
+
+    fn print(&self, alloc: Global) -> Result<Json, NoMemory> {
+        let service = self.service.as_str();
+        let until = self.until.as_str();
+        Ok(json!(in alloc; {"most": self.most, "service": service, "until": until})?)
+    }
+}
+
+/// All fields of a step but its loop.
+fn plain_fields(alloc: Global, step: &Step) -> Result<Map<String, Json>, NoMemory>
+    ensures { IfOk result (λ ms. members_view ms.entries
+        ≡ members (early_members (step_view step.now) ++ late_members (step_view step.now))) }
+{
+    let mut members = required_fields(alloc, step)?;
+    match &step.strategy {
+        Some(tree) => {
+            let tree = json_of_tree(alloc, tree)?;
+            serde_json::put(&mut members, alloc, "strategy", tree)?;
+            Ok(members)
+        }
+        None => Ok(members),
+    }
+}
+
+/// All fields of a step but its strategy and its loop.
 fn required_fields(alloc: Global, step: &Step) -> Result<Map<String, Json>, NoMemory>
     ensures { IfOk result (λ ms. members_view ms.entries
-        ≡ members (step_members (step_view step.now))) }
+        ≡ members (early_members (step_view step.now)
+        ++ late_members (record (step_view step.now) { strategy = None }))) }
 {
     let activities = array(alloc, step.activities.as_slice())?;
     let after = json_of_names(alloc, &step.after)?;

@@ -1,5 +1,6 @@
 -- Tellings that are worked one after the other.
 use Rattle.std.proofs.Common.{◌≡◌, refl, ℕ, ◌+◌, ◌≤◌, List, [], ◌∷◌, ◌++◌, map, length, take, sym, ap, ◌∙◌, arith, length-append}
+use Rattle.tv_value.specs.Values.{Name}
 use Rattle.tv_value.specs.Strategies.{Strategy}
 use Rattle.tv_match.specs.declared.told.Told as code
 use Rattle.tv_match.specs.Entries.{Entry, front}
@@ -11,7 +12,7 @@ use Rattle.tv_match.proofs.Working.{take-less, take-within}
 -- the first i of these are worked
 pub record Ahead (root : Filed) (log out : List Entry) (ts : List code.Told) (i : ℕ) (next : Filed) (more outs : List Entry) : Type 0 where
   pub listed : more ≡ log ++ map entry_of (take i ts)
-  pub done : (s : Strategy) → IsDone s root log out → IsDone s next more outs
+  pub done : (ports : Name → ℕ) (s : Strategy) → IsDone ports s root log out → IsDone ports s next more outs
   pub front_is : (k : ℕ) → k ≤ length log → front k outs ≡ front k out
   pub grows : length out ≤ length outs
 

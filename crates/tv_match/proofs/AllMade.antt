@@ -61,11 +61,11 @@ module _ (s : Strategy) (mm : List (Name × ℕ)) (root : Filed) (log out : List
 pub ahead-matched : AheadIsMatched
 ahead-matched m a =
     let s = strategy_view m.tree in
-    let items : kepts m.out ≡ briefs (worked_items (store_for 0 s) (unit_news ∷ map news_of m.log)) =
-    ap kepts (sym a.keeps.done.out_full) ∙ a.keeps.done.worked.items (length m.log) (omega arith) ∙ ap (λ l. briefs (worked_items (store_for 0 s) (unit_news ∷ map news_of l))) (take-length m.log) in
+    let items : kepts m.out ≡ briefs (worked_items (store_for (number_of m.mismatch) 0 s) (unit_news ∷ map news_of m.log)) =
+    ap kepts (sym a.keeps.done.out_full) ∙ a.keeps.done.worked.items (length m.log) (omega arith) ∙ ap (λ l. briefs (worked_items (store_for (number_of m.mismatch) 0 s) (unit_news ∷ map news_of l))) (take-length m.log) in
     let parts : map (telling_of s) m.log ≡ tellings_of s (take m.told m.log) ++ tellings_of s (drop m.told m.log) =
     ap (map (telling_of s)) (sym (take-append-drop m.told m.log)) ∙ map-append (telling_of s) (take m.told m.log) (drop m.told m.log) in
-    subst (λ l. IsPermutation (map outcome_of m.out) (map (out_of s) (matched_after s l))) parts (out-all s a.keeps.suits.leaves_differ m.log m.out a.keeps.proper items)
+    subst (λ l. IsPermutation (map outcome_of m.out) (map (out_of s) (matched_after s l))) parts (out-all s a.keeps.suits.leaves_differ (number_of m.mismatch) a.keeps.agree m.log m.out a.keeps.proper a.keeps.fit items)
 
 pub none-ahead : NoneIsAhead
 none-ahead m a e =

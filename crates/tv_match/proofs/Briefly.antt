@@ -10,7 +10,7 @@ use Rattle.tv_matching.specs.Items.{Kind, ends, closes, passes, item, if_so}
 use Rattle.tv_matching.specs.Matched.{bound, below, replaced, replaced_below, crossed_items, below_jobs, meet_kinds}
 use Rattle.tv_matching.specs.Matchers.{Kept}
 use Rattle.tv_matching.specs.Stores as spec
-use Rattle.tv_matching.specs.Stores.{leaf_store, cross_store, dot_store, is_job, only_jobs, latest_at, met_with, met_by_first, met_by_second, gain, grown}
+use Rattle.tv_matching.specs.Stores.{leaf_store, cross_store, dot_store, key_of, is_job, only_jobs, latest_at, latest_by, met_with, met_by_first, met_by_second, gain, grown}
 use Rattle.tv_matching.proofs.Lists.{map-same, flat-same, map-flat, map-if}
 use Rattle.tv_match.specs.declared.kinds.Kind as code
 use Rattle.tv_match.specs.Entries.{Entry, kind_view, kept_entry, kepts}
@@ -106,42 +106,42 @@ only_jobs-brief xs =
     same (closes n) = refl
     same (passes f) = refl
 
-latest-brief : (q : Place) (xs : List Kept) → latest_at q (briefs xs) ≡ briefs (latest_at q xs)
-latest-brief q [] = refl
-latest-brief q (x ∷ xs) =
-    ap (λ l. l ++ if_so (same_place q x.place) (brief x)) (latest-brief q xs)
-    ∙ ap (λ l. briefs (latest_at q xs) ++ l) (sym (map-if brief (same_place q x.place) x))
-    ∙ sym (briefs-append (latest_at q xs) (if_so (same_place q x.place) x))
+latest-brief : (key : Place → Place) (q : Place) (xs : List Kept) → latest_by key q (briefs xs) ≡ briefs (latest_by key q xs)
+latest-brief key q [] = refl
+latest-brief key q (x ∷ xs) =
+    ap (λ l. l ++ if_so (same_place q (key x.place)) (brief x)) (latest-brief key q xs)
+    ∙ ap (λ l. briefs (latest_by key q xs) ++ l) (sym (map-if brief (same_place q (key x.place)) x))
+    ∙ sym (briefs-append (latest_by key q xs) (if_so (same_place q (key x.place)) x))
 
-first-brief : (dx ys : List Kept) → briefs (met_by_first (briefs dx) (briefs ys)) ≡ briefs (met_by_first dx ys)
-first-brief dx ys =
-    ap briefs (flat_map-map (λ x. map (met_with x) (latest_at x.place (briefs ys))) brief dx)
-    ∙ map-flat brief (λ x. map (met_with (brief x)) (latest_at x.place (briefs ys))) dx
-    ∙ flat-same (λ x. briefs (map (met_with (brief x)) (latest_at x.place (briefs ys)))) (λ x. briefs (map (met_with x) (latest_at x.place ys))) one dx
-    ∙ sym (map-flat brief (λ x. map (met_with x) (latest_at x.place ys)) dx)
+first-brief : (key : Place → Place) (dx ys : List Kept) → briefs (met_by_first key (briefs dx) (briefs ys)) ≡ briefs (met_by_first key dx ys)
+first-brief key dx ys =
+    ap briefs (flat_map-map (λ x. map (met_with x) (latest_by key x.place (briefs ys))) brief dx)
+    ∙ map-flat brief (λ x. map (met_with (brief x)) (latest_by key x.place (briefs ys))) dx
+    ∙ flat-same (λ x. briefs (map (met_with (brief x)) (latest_by key x.place (briefs ys)))) (λ x. briefs (map (met_with x) (latest_by key x.place ys))) one dx
+    ∙ sym (map-flat brief (λ x. map (met_with x) (latest_by key x.place ys)) dx)
   where
-    one : (x : Kept) → briefs (map (met_with (brief x)) (latest_at x.place (briefs ys))) ≡ briefs (map (met_with x) (latest_at x.place ys))
+    one : (x : Kept) → briefs (map (met_with (brief x)) (latest_by key x.place (briefs ys))) ≡ briefs (map (met_with x) (latest_by key x.place ys))
     one x =
-        ap (λ l. briefs (map (met_with (brief x)) l)) (latest-brief x.place ys)
-        ∙ ap briefs (map-map (met_with (brief x)) brief (latest_at x.place ys))
-        ∙ map-map brief (λ y. met_with (brief x) (brief y)) (latest_at x.place ys)
-        ∙ map-same (λ y. brief (met_with (brief x) (brief y))) (λ y. brief (met_with x y)) (λ y. ap (λ k. item y.place k) (met-brief x.kind y.kind)) (latest_at x.place ys)
-        ∙ sym (map-map brief (met_with x) (latest_at x.place ys))
+        ap (λ l. briefs (map (met_with (brief x)) l)) (latest-brief key x.place ys)
+        ∙ ap briefs (map-map (met_with (brief x)) brief (latest_by key x.place ys))
+        ∙ map-map brief (λ y. met_with (brief x) (brief y)) (latest_by key x.place ys)
+        ∙ map-same (λ y. brief (met_with (brief x) (brief y))) (λ y. brief (met_with x y)) (λ y. ap (λ k. item y.place k) (met-brief x.kind y.kind)) (latest_by key x.place ys)
+        ∙ sym (map-map brief (met_with x) (latest_by key x.place ys))
 
-second-brief : (xs dy : List Kept) → briefs (met_by_second (briefs xs) (briefs dy)) ≡ briefs (met_by_second xs dy)
-second-brief xs dy =
-    ap briefs (flat_map-map (λ y. map (λ x. met_with x y) (latest_at y.place (briefs xs))) brief dy)
-    ∙ map-flat brief (λ y. map (λ x. met_with x (brief y)) (latest_at y.place (briefs xs))) dy
-    ∙ flat-same (λ y. briefs (map (λ x. met_with x (brief y)) (latest_at y.place (briefs xs)))) (λ y. briefs (map (λ x. met_with x y) (latest_at y.place xs))) one dy
-    ∙ sym (map-flat brief (λ y. map (λ x. met_with x y) (latest_at y.place xs)) dy)
+second-brief : (key : Place → Place) (xs dy : List Kept) → briefs (met_by_second key (briefs xs) (briefs dy)) ≡ briefs (met_by_second key xs dy)
+second-brief key xs dy =
+    ap briefs (flat_map-map (λ y. map (λ x. met_with x y) (latest_at (key y.place) (briefs xs))) brief dy)
+    ∙ map-flat brief (λ y. map (λ x. met_with x (brief y)) (latest_at (key y.place) (briefs xs))) dy
+    ∙ flat-same (λ y. briefs (map (λ x. met_with x (brief y)) (latest_at (key y.place) (briefs xs)))) (λ y. briefs (map (λ x. met_with x y) (latest_at (key y.place) xs))) one dy
+    ∙ sym (map-flat brief (λ y. map (λ x. met_with x y) (latest_at (key y.place) xs)) dy)
   where
-    one : (y : Kept) → briefs (map (λ x. met_with x (brief y)) (latest_at y.place (briefs xs))) ≡ briefs (map (λ x. met_with x y) (latest_at y.place xs))
+    one : (y : Kept) → briefs (map (λ x. met_with x (brief y)) (latest_at (key y.place) (briefs xs))) ≡ briefs (map (λ x. met_with x y) (latest_at (key y.place) xs))
     one y =
-        ap (λ l. briefs (map (λ x. met_with x (brief y)) l)) (latest-brief y.place xs)
-        ∙ ap briefs (map-map (λ x. met_with x (brief y)) brief (latest_at y.place xs))
-        ∙ map-map brief (λ x. met_with (brief x) (brief y)) (latest_at y.place xs)
-        ∙ map-same (λ x. brief (met_with (brief x) (brief y))) (λ x. brief (met_with x y)) (λ x. ap (λ k. item y.place k) (met-brief x.kind y.kind)) (latest_at y.place xs)
-        ∙ sym (map-map brief (λ x. met_with x y) (latest_at y.place xs))
+        ap (λ l. briefs (map (λ x. met_with x (brief y)) l)) (latest-brief (λ r. r) (key y.place) xs)
+        ∙ ap briefs (map-map (λ x. met_with x (brief y)) brief (latest_at (key y.place) xs))
+        ∙ map-map brief (λ x. met_with (brief x) (brief y)) (latest_at (key y.place) xs)
+        ∙ map-same (λ x. brief (met_with (brief x) (brief y))) (λ x. brief (met_with x y)) (λ x. ap (λ k. item y.place k) (met-brief x.kind y.kind)) (latest_at (key y.place) xs)
+        ∙ sym (map-map brief (λ x. met_with x y) (latest_at (key y.place) xs))
 
 -- ---- lists that are the same in brief have joins that are
 
@@ -160,11 +160,11 @@ crossed-alike = join-alike crossed_items crossed-brief
 pub below_jobs-alike : (xs us ys vs : List Kept) → Alike xs us → Alike ys vs → Alike (below_jobs xs ys) (below_jobs us vs)
 below_jobs-alike = join-alike below_jobs below_jobs-brief
 
-pub first-alike : (xs us ys vs : List Kept) → Alike xs us → Alike ys vs → Alike (met_by_first xs ys) (met_by_first us vs)
-first-alike = join-alike met_by_first first-brief
+pub first-alike : (key : Place → Place) (xs us ys vs : List Kept) → Alike xs us → Alike ys vs → Alike (met_by_first key xs ys) (met_by_first key us vs)
+first-alike key = join-alike (met_by_first key) (first-brief key)
 
-pub second-alike : (xs us ys vs : List Kept) → Alike xs us → Alike ys vs → Alike (met_by_second xs ys) (met_by_second us vs)
-second-alike = join-alike met_by_second second-brief
+pub second-alike : (key : Place → Place) (xs us ys vs : List Kept) → Alike xs us → Alike ys vs → Alike (met_by_second key xs ys) (met_by_second key us vs)
+second-alike key = join-alike (met_by_second key) (second-brief key)
 
 pub only_jobs-alike : (xs us : List Kept) → Alike xs us → Alike (only_jobs xs) (only_jobs us)
 only_jobs-alike xs us e = sym (only_jobs-brief xs) ∙ ap only_jobs e ∙ only_jobs-brief us
@@ -182,12 +182,12 @@ module _ (new : Option ℕ → List Kept) where
       (below_jobs-alike (briefs es ++ only_jobs (gain new (brief_store f))) (es ++ only_jobs (gain new f)) (gain new (brief_store r)) (gain new r)
       (append-alike (briefs es) es (only_jobs (gain new (brief_store f))) (only_jobs (gain new f)) (briefs-again es) (only_jobs-alike (gain new (brief_store f)) (gain new f) df))
       dr)
-  gain-brief (dot_store xs ys f r) =
+  gain-brief (dot_store k xs ys f r) =
       let df = gain-brief f in
       let dr = gain-brief r in
-      append-alike (met_by_first (gain new (brief_store f)) (briefs ys)) (met_by_first (gain new f) ys) (met_by_second (briefs xs ++ gain new (brief_store f)) (gain new (brief_store r))) (met_by_second (xs ++ gain new f) (gain new r))
-      (first-alike (gain new (brief_store f)) (gain new f) (briefs ys) ys df (briefs-again ys))
-      (second-alike (briefs xs ++ gain new (brief_store f)) (xs ++ gain new f) (gain new (brief_store r)) (gain new r) (append-alike (briefs xs) xs (gain new (brief_store f)) (gain new f) (briefs-again xs) df) dr)
+      append-alike (met_by_first (key_of k) (gain new (brief_store f)) (briefs ys)) (met_by_first (key_of k) (gain new f) ys) (met_by_second (key_of k) (briefs xs ++ gain new (brief_store f)) (gain new (brief_store r))) (met_by_second (key_of k) (xs ++ gain new f) (gain new r))
+      (first-alike (key_of k) (gain new (brief_store f)) (gain new f) (briefs ys) ys df (briefs-again ys))
+      (second-alike (key_of k) (briefs xs ++ gain new (brief_store f)) (xs ++ gain new f) (gain new (brief_store r)) (gain new r) (append-alike (briefs xs) xs (gain new (brief_store f)) (gain new f) (briefs-again xs) df) dr)
 
   pub grown-brief : (st : spec.Store (Unit {0}) ℕ) → brief_store (grown new (brief_store st)) ≡ brief_store (grown new st)
   grown-brief (leaf_store l) = refl
@@ -198,10 +198,10 @@ module _ (new : Option ℕ → List Kept) where
       ∙ ap (λ l. cross_store (briefs (es ++ only_jobs (gain new f))) l bf br) (append-alike (briefs ys) ys (gain new (brief_store r)) (gain new r) (briefs-again ys) (gain-brief r))
       ∙ ap (λ s. cross_store (briefs (es ++ only_jobs (gain new f))) (briefs (ys ++ gain new r)) s br) (grown-brief f)
       ∙ ap (λ s. cross_store (briefs (es ++ only_jobs (gain new f))) (briefs (ys ++ gain new r)) (brief_store (grown new f)) s) (grown-brief r)
-  grown-brief (dot_store xs ys f r) =
+  grown-brief (dot_store k xs ys f r) =
       let bf = brief_store (grown new (brief_store f)) in
       let br = brief_store (grown new (brief_store r)) in
-      ap (λ l. dot_store l (briefs (briefs ys ++ gain new (brief_store r))) bf br) (append-alike (briefs xs) xs (gain new (brief_store f)) (gain new f) (briefs-again xs) (gain-brief f))
-      ∙ ap (λ l. dot_store (briefs (xs ++ gain new f)) l bf br) (append-alike (briefs ys) ys (gain new (brief_store r)) (gain new r) (briefs-again ys) (gain-brief r))
-      ∙ ap (λ s. dot_store (briefs (xs ++ gain new f)) (briefs (ys ++ gain new r)) s br) (grown-brief f)
-      ∙ ap (λ s. dot_store (briefs (xs ++ gain new f)) (briefs (ys ++ gain new r)) (brief_store (grown new f)) s) (grown-brief r)
+      ap (λ l. dot_store k l (briefs (briefs ys ++ gain new (brief_store r))) bf br) (append-alike (briefs xs) xs (gain new (brief_store f)) (gain new f) (briefs-again xs) (gain-brief f))
+      ∙ ap (λ l. dot_store k (briefs (xs ++ gain new f)) l bf br) (append-alike (briefs ys) ys (gain new (brief_store r)) (gain new r) (briefs-again ys) (gain-brief r))
+      ∙ ap (λ s. dot_store k (briefs (xs ++ gain new f)) (briefs (ys ++ gain new r)) s br) (grown-brief f)
+      ∙ ap (λ s. dot_store k (briefs (xs ++ gain new f)) (briefs (ys ++ gain new r)) (brief_store (grown new f)) s) (grown-brief r)

@@ -11,6 +11,7 @@ use Rattle.tv_strategy.proofs.Sources.{each-append}
 use Rattle.tv_matching.specs.Members.{Once}
 use Rattle.tv_matching.specs.Told.{Told, told_to, matched_after, IsFit, IsNew}
 use Rattle.tv_matching.specs.Matchers.{Matching, out as out_of, CanTell, IsTold, IsFreed}
+use Rattle.tv_matching.proofs.Lists.{each-map}
 use Rattle.tv_matching.proofs.Permutes.{perm-from}
 use Rattle.tv_matching.proofs.LawLemmas.{new-is_once}
 use Rattle.tv_match.specs.Entries.{Entry, no_entry, entry_at, front, AreMore}
@@ -59,7 +60,7 @@ module _ (s : Strategy) (mm : List (Name × ℕ)) where
         record {
           suits = a.suits;
           agree = a.agree;
-          fit = subst (Each (IsFit (number_of mm))) (sym one-more) (each-append (IsFit (number_of mm)) (tellings_of s (take n log)) (telling_of s e ∷ []) a.fit (c.0, tt));
+          fit = a.fit;
           once = λ p. subst (λ l. Once (told_to l p)) (sym one-more) (new-is_once (tellings_of s (take n log)) a.once (telling_of s e) c.1 p);
           proper = a.proper;
           done = a.done;
@@ -85,12 +86,12 @@ module _ (s : Strategy) (mm : List (Name × ℕ)) where
     same-told : take n (take n log) ≡ take n log
     same-told = take-less n n log (omega arith)
 
-    pub back-sound : IsDone s next (take n log) (front n out) → AreSound s mm next (take n log) (front n out) n g
+    pub back-sound : IsDone (number_of mm) s next (take n log) (front n out) → AreSound s mm next (take n log) (front n out) n g
     back-sound d =
         record {
           suits = a.suits;
           agree = a.agree;
-          fit = subst (λ l. Each (IsFit (number_of mm)) (tellings_of s l)) (sym same-told) a.fit;
+          fit = each-take (λ e. IsFit (number_of mm) (telling_of s e)) n log a.fit;
           once = λ p. subst (λ l. Once (told_to (tellings_of s l) p)) (sym same-told) (a.once p);
           proper = each-take (IsProper s) n log a.proper;
           done = d;
@@ -117,12 +118,12 @@ module _ (s : Strategy) (mm : List (Name × ℕ)) where
     same-front : front n outs ≡ front n out
     same-front = more-late n (length log + 1) out outs (omega (arith, l)) b
 
-    pub listed-sound : IsProper s e → IsDone s next more outs → AreSound s mm next more outs n g
-    listed-sound p d =
+    pub listed-sound : IsProper s e → IsFit (number_of mm) (telling_of s e) → IsDone (number_of mm) s next more outs → AreSound s mm next more outs n g
+    listed-sound p f d =
         record {
           suits = a.suits;
           agree = a.agree;
-          fit = subst (λ x. Each (IsFit (number_of mm)) (tellings_of s x)) (sym same-first) a.fit;
+          fit = subst (Each (λ e. IsFit (number_of mm) (telling_of s e))) (sym m) (each-append (λ e. IsFit (number_of mm) (telling_of s e)) log (e ∷ []) a.fit (f, tt));
           once = λ q. subst (λ x. Once (told_to (tellings_of s x) q)) (sym same-first) (a.once q);
           proper = subst (Each (IsProper s)) (sym m) (each-append (IsProper s) log (e ∷ []) a.proper (p, tt));
           done = d;
@@ -168,7 +169,7 @@ module _ (s : Strategy) (mm : List (Name × ℕ)) (root : Filed) (log out : List
       by (inl l) = other (l, telling-same s a.suits.leaves_differ (entry_at log n) e (proper-at log n a.proper l) p (held-head s mm log n (telling_of s e) rest l h))
       by (inr l) = held-there s mm log n (telling_of s e) rest l h
 
-  module _ (one : Filed) (d : IsDone s one (take n log) (front n out)) where
+  module _ (one : Filed) (d : IsDone (number_of mm) s one (take n log) (front n out)) where
     long : n ≡ length (take n log)
     long = sym (length-take-le n log a.told_within)
 
@@ -176,9 +177,9 @@ module _ (s : Strategy) (mm : List (Name × ℕ)) (root : Filed) (log out : List
     back = back-sound s mm root one log out n g a d
 
     -- it is worked, and made
-    module _ (two : Filed) (more outs : List Entry) (m : more ≡ take n log ++ e ∷ []) (b : AreMore (length (take n log) + 1) (front n out) outs) (done : IsDone s two more outs) (c : CanTell (seen_as s mm log out n g) (telling_of s e)) where
+    module _ (two : Filed) (more outs : List Entry) (m : more ≡ take n log ++ e ∷ []) (b : AreMore (length (take n log) + 1) (front n out) outs) (done : IsDone (number_of mm) s two more outs) (c : CanTell (seen_as s mm log out n g) (telling_of s e)) where
       listed : AreSound s mm two more outs n g
-      listed = listed-sound s mm one two (take n log) more (front n out) outs n g e back long m b p done
+      listed = listed-sound s mm one two (take n log) more (front n out) outs n g e back long m b p c.0 done
 
       told-same : tellings_of s (take n more) ≡ tellings_of s (take n log)
       told-same = listed-told s mm one two (take n log) more (front n out) outs n g e back long m b ∙ (back-freed s mm root one log out n g a).told_is
@@ -206,7 +207,7 @@ module _ (s : Strategy) (mm : List (Name × ℕ)) (root : Filed) (log out : List
           (next-told s mm two more outs n g e listed here at-end)
 
     -- or memory was wanting, and what there is of it is taken back
-    module _ (two three : Filed) (more outs log' out' : List Entry) (b : AreMore (length (take n log) + 1) (front n out) outs) (l : take (length (take n log)) more ≡ take n log) (k : log' ≡ take n more) (o : out' ≡ front n outs) (w : IsDone s three log' out') where
+    module _ (two three : Filed) (more outs log' out' : List Entry) (b : AreMore (length (take n log) + 1) (front n out) outs) (l : take (length (take n log)) more ≡ take n log) (k : log' ≡ take n more) (o : out' ≡ front n outs) (w : IsDone (number_of mm) s three log' out') where
       log-same : log' ≡ take n log
       log-same = k ∙ ap (λ i. take i more) long ∙ l
 
@@ -217,7 +218,7 @@ module _ (s : Strategy) (mm : List (Name × ℕ)) (root : Filed) (log out : List
       failed-sound =
           subst (λ x. AreSound s mm three x out' n g) (sym log-same)
           (subst (λ x. AreSound s mm three (take n log) x n g) (sym out-same)
-          (back-sound s mm root three log out n g a (subst (λ x. IsDone s three x (front n out)) log-same (subst (λ x. IsDone s three log' x) out-same w))))
+          (back-sound s mm root three log out n g a (subst (λ x. IsDone (number_of mm) s three x (front n out)) log-same (subst (λ x. IsDone (number_of mm) s three log' x) out-same w))))
 
       pub failed-freed : IsFreed (seen_as s mm log out n g) (seen_as s mm log' out' n g)
       failed-freed =
@@ -226,8 +227,8 @@ module _ (s : Strategy) (mm : List (Name × ℕ)) (root : Filed) (log out : List
 
 -- ---- facts of calls, at equal lists
 
-pub done-at : (s : Strategy) (one : Filed) (a b c d : List Entry) → a ≡ c → b ≡ d → IsDone s one a b → IsDone s one c d
-done-at s one a b c d e f h = subst (λ x. IsDone s one x d) e (subst (λ x. IsDone s one a x) f h)
+pub done-at : (ports : Name → ℕ) (s : Strategy) (one : Filed) (a b c d : List Entry) → a ≡ c → b ≡ d → IsDone ports s one a b → IsDone ports s one c d
+done-at ports s one a b c d e f h = subst (λ x. IsDone ports s one x d) e (subst (λ x. IsDone ports s one a x) f h)
 
 pub more-at : (a b c d outs : List Entry) → a ≡ c → b ≡ d → AreMore (length a + 1) b outs → AreMore (length c + 1) d outs
 more-at a b c d outs e f h = subst (λ x. AreMore (length x + 1) d outs) e (subst (λ x. AreMore (length a + 1) x outs) f h)
@@ -249,6 +250,10 @@ first-long n a log h e = let k = ap length e in let l = length-take-le n log h i
 pub listed-count : (n : ℕ) (log more : List Entry) (e : Entry) → n ≤ length log → more ≡ take n log ++ e ∷ [] → length more ≡ n + 1
 listed-count n log more e h m = let k = ap length m in let j = length-append (take n log) (e ∷ []) in let l = length-take-le n log h in omega (arith, k, j, l)
 
+-- what was told is fit
+pub told-fit : (s : Strategy) (mm : List (Name × ℕ)) (root : Filed) (log out : List Entry) (n g : ℕ) → AreSound s mm root log out n g → Each (IsFit (number_of mm)) (tellings_of s (take n log))
+told-fit s mm root log out n g a = each-map (IsFit (number_of mm)) (telling_of s) (take n log) (each-take (λ e. IsFit (number_of mm) (telling_of s e)) n log a.fit)
+
 -- ---- what has come out
 
 module _ (s : Strategy) (mm : List (Name × ℕ)) (root : Filed) (log out : List Entry) (n g : ℕ) (a : AreSound s mm root log out n g) where
@@ -257,7 +262,7 @@ module _ (s : Strategy) (mm : List (Name × ℕ)) (root : Filed) (log out : List
       let l = a.given_within in
       let e : g ≡ length (front n out) = omega (arith, h, l) in
       subst (λ xs. IsPermutation (map outcome_of xs) (map (out_of s) (matched_after s (tellings_of s (take n log))))) (sym (ap (λ k. take k out) e ∙ front-first n out))
-      (out-all s a.suits.leaves_differ (take n log) (front n out) (each-take (IsProper s) n log a.proper) (a.done.worked.items n a.told_within))
+      (out-all s a.suits.leaves_differ (number_of mm) a.agree (take n log) (front n out) (each-take (IsProper s) n log a.proper) (each-take (λ e. IsFit (number_of mm) (telling_of s e)) n log a.fit) (a.done.worked.items n a.told_within))
 
   -- the next one comes out
   pub given-sound : g < length out → (entry_at out g).number ≤ n → AreSound s mm root log out n (g + 1)
@@ -280,11 +285,11 @@ freed-at s mm root log out log' out' n g a k o =
     subst (λ x. IsFreed (seen_as s mm log out n g) (seen_as s mm x out' n g)) (sym k)
     (subst (λ x. IsFreed (seen_as s mm log out n g) (seen_as s mm (take n log) x n g)) (sym o) (back-freed s mm root root log out n g a))
 
-pub back-sound_at : (s : Strategy) (mm : List (Name × ℕ)) (root next : Filed) (log out log' out' : List Entry) (n g : ℕ) → AreSound s mm root log out n g → log' ≡ take n log → out' ≡ front n out → IsDone s next log' out' → AreSound s mm next log' out' n g
+pub back-sound_at : (s : Strategy) (mm : List (Name × ℕ)) (root next : Filed) (log out log' out' : List Entry) (n g : ℕ) → AreSound s mm root log out n g → log' ≡ take n log → out' ≡ front n out → IsDone (number_of mm) s next log' out' → AreSound s mm next log' out' n g
 back-sound_at s mm root next log out log' out' n g a k o d =
     subst (λ x. AreSound s mm next x out' n g) (sym k)
     (subst (λ x. AreSound s mm next (take n log) x n g) (sym o)
-    (back-sound s mm root next log out n g a (done-at s next log' out' (take n log) (front n out) k o d)))
+    (back-sound s mm root next log out n g a (done-at (number_of mm) s next log' out' (take n log) (front n out) k o d)))
 
 pub back-log : (n : ℕ) (log mid more : List Entry) → n ≤ length log → mid ≡ take n log → take (length mid) more ≡ mid → take n more ≡ take n log
 back-log n log mid more h e l = ap (λ i. take i more) (sym (ap length e ∙ length-take-le n log h)) ∙ l ∙ e
@@ -309,4 +314,4 @@ module _ (s : Strategy) (mm : List (Name × ℕ)) (root : Filed) (log out : List
       let l = early-in_front n out g h k in
       let at : entry_at (front n out) g ≡ entry_at out g = ap (λ es. entry_at es g) (sym (front-first n out)) ∙ taken-at (length (front n out)) out g l in
       subst (λ (e : Entry). length e.place ≤ strategy_depth (number_of mm) s) at
-      (places-short s (number_of mm) a.suits.leaves_differ (take n log) (front n out) (each-take (IsProper s) n log a.proper) a.fit a.once a.agree (a.done.worked.items n a.told_within) g l)
+      (places-short s (number_of mm) a.suits.leaves_differ (take n log) (front n out) (each-take (IsProper s) n log a.proper) (each-take (λ e. IsFit (number_of mm) (telling_of s e)) n log a.fit) a.once a.agree (a.done.worked.items n a.told_within) g l)

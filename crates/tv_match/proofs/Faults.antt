@@ -17,7 +17,7 @@ use Rattle.tv_strategy.specs.Splits.{same_place}
 use Rattle.tv_strategy.proofs.PlaceLemmas.{same-itself}
 use Rattle.tv_matching.specs.Items.{Kind, ends, closes, passes, Item, if_so}
 use Rattle.tv_matching.specs.Members.{at_place, Once}
-use Rattle.tv_matching.specs.Told.{Spot, Told, Marked, marked_after, matched_after, binds_some, faulty_at}
+use Rattle.tv_matching.specs.Told.{Spot, Told, IsFit, Marked, marked_after, matched_after, binds_some, faulty_at}
 use Rattle.tv_matching.specs.Matchers.{out as out_of, Kept, kept_item, kept_of, leaf_number, bare_bound, bare_kind}
 use Rattle.tv_matching.specs.Matched.{matched}
 use Rattle.tv_matching.specs.Stores.{store_for, worked_items}
@@ -30,8 +30,8 @@ use Rattle.tv_match.specs.Entries.{Entry, entry_at, kept_entry, kepts, kind_view
 use Rattle.tv_match.specs.Brief.{brief, brief_kind, briefs}
 use Rattle.tv_match.specs.Filed.{Filed}
 use Rattle.tv_match.specs.Working.{unit_news, news_of}
-use Rattle.tv_match.specs.Seen.{tellings_of, outcome_of, outcome_kind, AreSound, IsProper, is_faulty}
-use Rattle.tv_match.proofs.Calls.{each-take}
+use Rattle.tv_match.specs.Seen.{telling_of, tellings_of, outcome_of, outcome_kind, AreSound, IsProper, is_faulty}
+use Rattle.tv_match.proofs.Calls.{each-take, told-fit}
 use Rattle.tv_match.proofs.Fronts.{front-first, front-less, front-short}
 use Rattle.tv_match.proofs.Working.{take-less}
 use Rattle.tv_match.proofs.Seeing.{worked-matched, out-all}
@@ -113,11 +113,11 @@ module _ (s : Strategy) (mm : List (Name × ℕ)) (root : Filed) (log out : List
       let ts = tellings_of s (take n log) in
       let es = front n out in
       let e : entry_at es i ≡ entry_at out i = ap (λ xs. entry_at xs i) (sym (front-first n out)) ∙ taken-at (length es) out i h in
-      let once : Once (marked_after s ts) = once-before plain plain-place (marked_after s ts) (subst Once (sym (marked-is_matched s ts)) (matches-once (number_of mm) ts a.fit a.once s a.agree).0) in
+      let once : Once (marked_after s ts) = once-before plain plain-place (marked_after s ts) (subst Once (sym (marked-is_matched s ts)) (matches-once (number_of mm) ts (told-fit s mm root log out n g a) a.once s a.agree).0) in
       let proper = each-take (IsProper s) n log a.proper in
-      let there : In (kept_entry (entry_at es i)) (briefs (worked_items (store_for 0 s) (unit_news ∷ map news_of (take n log)))) = subst (In (kept_entry (entry_at es i))) (a.done.worked.items n a.told_within) (entry-in es i h) in
-      let w = of-map brief (kept_entry (entry_at es i)) (worked_items (store_for 0 s) (unit_news ∷ map news_of (take n log))) there in
-      let m : In w.0 (matched (kept_of s ts) s) = in-permutes w.0 (matched (kept_of s ts) s) (worked_items (store_for 0 s) (unit_news ∷ map news_of (take n log))) (IsPermutation-sym _ _ (worked-matched s a.suits.leaves_differ (take n log) proper)) w.1 in
+      let there : In (kept_entry (entry_at es i)) (briefs (worked_items (store_for (number_of mm) 0 s) (unit_news ∷ map news_of (take n log)))) = subst (In (kept_entry (entry_at es i))) (a.done.worked.items n a.told_within) (entry-in es i h) in
+      let w = of-map brief (kept_entry (entry_at es i)) (worked_items (store_for (number_of mm) 0 s) (unit_news ∷ map news_of (take n log))) there in
+      let m : In w.0 (matched (kept_of s ts) s) = in-permutes w.0 (matched (kept_of s ts) s) (worked_items (store_for (number_of mm) 0 s) (unit_news ∷ map news_of (take n log))) (IsPermutation-sym _ _ (worked-matched s a.suits.leaves_differ (number_of mm) a.agree (take n log) proper (each-take (λ e. IsFit (number_of mm) (telling_of s e)) n log a.fit))) w.1 in
       let x = of-map (kept_item s) w.0 (marked_after s ts) (subst (In w.0) (kept-is_enough s ts).0 m) in
       let same : kept_entry (entry_at out i) ≡ brief (kept_item s x.0) = ap kept_entry (sym e) ∙ w.2 ∙ ap brief x.2 in
       ap is_faulty d
@@ -171,7 +171,7 @@ module _ (s : Strategy) (mm : List (Name × ℕ)) (root : Filed) (log out : List
   in-order_within i h = let e = length-map (front n out) outcome_of in let l = front-short n out in (omega (arith, e, h), omega (arith, e, h, l))
 
   pub all-in_order : IsPermutation (map outcome_of (front n out)) (map (out_of s) (matched_after s (tellings_of s (take n log))))
-  all-in_order = out-all s a.suits.leaves_differ (take n log) (front n out) (each-take (IsProper s) n log a.proper) (a.done.worked.items n a.told_within)
+  all-in_order = out-all s a.suits.leaves_differ (number_of mm) a.agree (take n log) (front n out) (each-take (IsProper s) n log a.proper) (each-take (λ e. IsFit (number_of mm) (telling_of s e)) n log a.fit) (a.done.worked.items n a.told_within)
 
 -- what followed before stands in front
 pub order-stays : (n m : ℕ) (out outs : List Entry) → n ≤ m → front n outs ≡ front n out → take (length (map outcome_of (front n out))) (map outcome_of (front m outs)) ≡ map outcome_of (front n out)

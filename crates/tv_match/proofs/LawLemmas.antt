@@ -27,7 +27,7 @@ use Rattle.tv_match.specs.Entries.{front, entry_at}
 use Rattle.tv_match.specs.Filed.{filed}
 use Rattle.tv_match.specs.Seen.{IsSound, in_order, matching, HasMore, outcome_of}
 use Rattle.tv_match.specs.Stated.{AreTold, known_out, outcome_place, outcomes_at, StandOnce, SoundIsMatching, GivesOnlyKnown, GivesOnce, GivesAllKnown, MoreIsLeft, OrderIsKnown, AllAtTheEnd, AddedIsBehind}
-use Rattle.tv_match.proofs.Calls.{gave-all}
+use Rattle.tv_match.proofs.Calls.{gave-all, told-fit}
 use Rattle.tv_match.proofs.Cancelled.{front-off}
 use Rattle.tv_match.proofs.Faults.{given-first, given-long, all-in_order}
 use Rattle.tv_match.proofs.Fronts.{early-in_front, late-behind, front-short}
@@ -52,7 +52,7 @@ sound-is_matching m a =
     record {
       suits = a.keeps.suits;
       agree = a.keeps.agree;
-      fit = a.keeps.fit;
+      fit = told-fit (strategy_view m.tree) m.mismatch (filed m.root) m.log m.out m.told m.given a.keeps;
       once = a.keeps.once;
       rest = drop m.given (in_order m);
       parts = subst (λ l. IsPermutation l (all_out (matching m))) (sym (in-parts m a)) (all-follows m a);
@@ -148,7 +148,7 @@ order-once : (m : Matcher) → IsSound m → StandOnce (in_order m)
 order-once m a q =
     let s = strategy_view m.tree in
     let ts = (matching m).told in
-    let o = (matches-once (number_of m.mismatch) ts a.keeps.fit a.keeps.once s a.keeps.agree).0 q in
+    let o = (matches-once (number_of m.mismatch) ts (told-fit s m.mismatch (filed m.root) m.log m.out m.told m.given a.keeps) a.keeps.once s a.keeps.agree).0 q in
     let e = ap length (at-out s q (matched_after s ts)) ∙ length-map (at_place q (matched_after s ts)) (out s) in
     let p = length_permutation _ _ (flat-permutes (λ o. if_so (same_place q (outcome_place o)) o) (in_order m) (all_out (matching m)) (all-follows m a)) in
     omega (arith, o, e, p)

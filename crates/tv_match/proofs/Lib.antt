@@ -9,6 +9,7 @@ pub mod Filing
 pub mod Working
 pub mod Seeing
 pub mod Calls
+pub mod Grouping
 pub mod Builds
 pub mod Ahead
 pub mod Faults
@@ -17,6 +18,7 @@ pub mod Begins
 pub mod AllMade
 pub mod Placing
 pub mod Unchanged
+pub mod Undone
 pub mod FaultsAhead
 pub mod Cancelled
 pub mod LawLemmas

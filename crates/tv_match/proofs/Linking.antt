@@ -2,10 +2,11 @@
 use Rattle.std.specs.Prelude.{IfSome}
 use Rattle.std.proofs.Common.{◌≡◌, ◌≢◌, ◌⊎◌, inl, inr, refl, ℕ, zero, suc, ◌==◌, ◌+◌, ◌*◌, ◌/◌, ◌%◌, ◌^◌, ◌<◌, ◌≤◌, Bool, true, false, nat_lt, if◌then◌else◌, List, [], ◌∷◌, ◌++◌, length, take, get_or, Option, Some, None, sym, ap, subst, ◌∙◌, arith, length-append}
 use Rattle.tv_value.specs.Nested.{Place}
+use Rattle.tv_matching.specs.Matched.{same}
 use Rattle.tv_matching.specs.Stores.{latest_at}
 use Rattle.tv_match.specs.Entries.{Entry, entry_at, kepts, FoundBefore}
 use Rattle.tv_match.specs.Linked.{digit_of, link_at, Reaches, Leads, AreRising, AreLinked, Agree}
-use Rattle.tv_match.proofs.Latest.{latest-other, found-here}
+use Rattle.tv_match.proofs.Latest.{none-between, found-here}
 use Rattle.tv_lemmas.proofs.Numbers.{less-or_same}
 
 pub digit-small : (q : Place) (level : ℕ) → digit_of q level < 4
@@ -129,33 +130,11 @@ module _ (links : List ℕ) (es : List Entry) (q : Place) (before : ℕ) (w : be
       by i (inl k) = inl (past latest i s.found k)
       by i (inr k) = split i k
 
-  -- nothing stands at the place from one item to another
-  none-between : (n i : ℕ) → n ≤ length es → i ≤ n → ((j : ℕ) → j < n → i ≤ j → (entry_at es j).place ≢ q) → latest_at q (kepts (take n es)) ≡ latest_at q (kepts (take i es))
-  none-between zero i l h none = ap (λ k. latest_at q (kepts (take k es))) (zeros i h)
-    where
-      zeros : (i : ℕ) → i ≤ 0 → 0 ≡ i
-      zeros i h = omega arith
-  none-between (suc n) i l h none = by (last n i h) (λ k. none-between n i (omega (arith, l)) k (λ j m o. none j (omega (arith, m)) o))
-    where
-      last : (n i : ℕ) → i ≤ suc n → (i ≤ n) ⊎ (i ≡ suc n)
-      last zero zero h = inl (omega arith)
-      last zero (suc i) h = inr (omega (arith, h))
-      last (suc n) zero h = inl (omega arith)
-      last (suc n) (suc i) h = up (last n i (omega (arith, h)))
-        where
-          up : (i ≤ n) ⊎ (i ≡ suc n) → (suc i ≤ suc n) ⊎ (suc i ≡ suc (suc n))
-          up (inl k) = inl (omega (arith, k))
-          up (inr k) = inr (ap suc k)
-
-      by : (i ≤ n) ⊎ (i ≡ suc n) → ((i ≤ n) → latest_at q (kepts (take n es)) ≡ latest_at q (kepts (take i es))) → latest_at q (kepts (take (suc n) es)) ≡ latest_at q (kepts (take i es))
-      by (inl k) r = latest-other q es (suc n) n refl l (none n (omega arith) k) ∙ r k
-      by (inr k) r = ap (λ j. latest_at q (kepts (take j es))) (sym k)
-
   past-end : (at level i : ℕ) → before ≤ at → i < before → Leads links q i at level → ⊥
   past-end at level i h k r = let l = reaches-late links q r.0 i at level r.1 in absurd (omega (arith, l, h, k))
 
   pub searches-none : (at level : ℕ) → Searches links es q before at level None → before ≤ at → latest_at q (kepts (take before es)) ≡ []
-  searches-none at level s h = none-between before 0 w (omega arith) (λ j k l e. by j k (s.rest j k e))
+  searches-none at level s h = none-between same q es before 0 w (omega arith) (λ j k l e. by j k (s.rest j k e))
     where
       by : (j : ℕ) → j < before → ⊥ ⊎ Leads links q j at level → ⊥
       by j k (inl m) = m
@@ -164,7 +143,7 @@ module _ (links : List ℕ) (es : List Entry) (q : Place) (before : ℕ) (w : be
   pub searches-some : (at level f : ℕ) → Searches links es q before at level (Some f) → before ≤ at → FoundBefore q es before f
   searches-some at level f s h =
       let l = s.found.1 in
-      found-here q es before (suc f) f refl (omega (arith, l)) w (none-between before (suc f) w (omega (arith, l)) (λ j k m e. by j k m (s.rest j k e))) s.found.2
+      found-here same q es before (suc f) f refl (omega (arith, l)) w (none-between same q es before (suc f) w (omega (arith, l)) (λ j k m e. by j k m (s.rest j k e))) s.found.2
     where
       by : (j : ℕ) → j < before → suc f ≤ j → (j ≤ f) ⊎ Leads links q j at level → ⊥
       by j k m (inl n) = absurd (omega (arith, m, n))

@@ -1,6 +1,7 @@
 -- Loops that put what follows from each item of a list behind others.
-use Rattle.std.proofs.Common.{◌≡◌, refl, ℕ, zero, suc, ◌+◌, ◌<◌, ◌≤◌, List, [], ◌∷◌, ◌++◌, flat_map, length, drop, sym, ap, ◌∙◌, arith, append-nil}
+use Rattle.std.proofs.Common.{◌≡◌, refl, ℕ, zero, suc, ◌+◌, ◌<◌, ◌≤◌, List, [], ◌∷◌, ◌++◌, flat_map, length, drop, sym, ap, ◌∙◌, arith, append-nil, append_assoc}
 use Rattle.tv_value.specs.Nested.{Place}
+use Rattle.tv_strategy.proofs.Sources.{each-append}
 use Rattle.tv_matching.specs.Items.{Kind, ends, closes, passes}
 use Rattle.tv_matching.specs.Matched.{below_jobs, replaced_below}
 use Rattle.tv_matching.specs.Matchers.{Kept}
@@ -11,6 +12,14 @@ use Rattle.tv_match.specs.Brief.{briefs}
 
 pub more-none : (n : ℕ) (es : List Entry) → AreMore n es es
 more-none n es = record { more = []; new_is = sym (append-nil es); are_of = tt }
+
+pub more-one : (n : ℕ) (old mid new : List Entry) (e : Entry) → AreMore n old mid → new ≡ mid ++ e ∷ [] → e.number ≡ n → AreMore n old new
+more-one n old mid new e m h k =
+    record {
+      more = m.more ++ e ∷ [];
+      new_is = h ∙ ap (λ l. l ++ e ∷ []) m.new_is ∙ append_assoc old m.more (e ∷ []);
+      are_of = each-append (λ (f : Entry). f.number ≡ n) m.more (e ∷ []) m.are_of (k, tt);
+    }
 
 -- ---- a loop
 

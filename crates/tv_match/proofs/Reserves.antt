@@ -11,7 +11,7 @@ use Rattle.tv_strategy.specs.Measures.{leaf_names}
 use Rattle.tv_strategy.proofs.Sources.{each-append}
 use Rattle.tv_matching.specs.Members.{Once}
 use Rattle.tv_matching.specs.Told.{told_to, matched_after, count_of_added, IsFit}
-use Rattle.tv_matching.specs.Matchers.{out as out_of, Holds}
+use Rattle.tv_matching.specs.Matchers.{Matching, out as out_of, CanTellAll, Holds}
 use Rattle.tv_matching.specs.Stores.{store_for, worked_items}
 use Rattle.tv_matching.proofs.LawLemmas.{tellings-count}
 use Rattle.tv_match.specs.declared.told.Told as code
@@ -36,7 +36,12 @@ module _ (s : Strategy) where
   listed-all [] = refl
   listed-all (t ∷ ts) = ap (λ x. x ∷ tellings_of s (map entry_of ts)) (listed-one t) ∙ ap (λ l. told_view s t ∷ l) (listed-all ts)
 
-module _ (s : Strategy) (mm : List (Name × ℕ)) (root : Filed) (log out : List Entry) (n g : ℕ) (a : AreSound s mm root log out n g) (ts : List code.Told) (names : NameLeaves s ts) (two : Filed) (more outs : List Entry) (m : more ≡ take n log ++ map entry_of ts) (d : IsDone s two more outs) (fr : front n outs ≡ front n (front n out)) where
+  -- what can be told is fit
+  all-fit : (m : Matching) (ts : List code.Told) → CanTellAll m (map (told_view s) ts) → Each (λ e. IsFit (number_of m.mismatch) (telling_of s e)) (map entry_of ts)
+  all-fit m [] h = tt
+  all-fit m (t ∷ ts) h = (subst (IsFit (number_of m.mismatch)) (sym (listed-one t)) h.0.0, all-fit (record m { told = m.told ++ told_view s t ∷ [] }) ts h.1)
+
+module _ (s : Strategy) (mm : List (Name × ℕ)) (root : Filed) (log out : List Entry) (n g : ℕ) (a : AreSound s mm root log out n g) (ts : List code.Told) (names : NameLeaves s ts) (can : CanTellAll (seen_as s mm log out n g) (map (told_view s) ts)) (two : Filed) (more outs : List Entry) (m : more ≡ take n log ++ map entry_of ts) (d : IsDone (number_of mm) s two more outs) (fr : front n outs ≡ front n (front n out)) where
   one-proper : (t : code.Told) → leaf_of t < length (leaf_names s) → IsProper s (entry_of t)
   one-proper (code.Told.Arrival l q true) h = fault-proper s a.suits.leaves_differ l q h
   one-proper (code.Told.Arrival l q false) h = bound-proper s a.suits.leaves_differ l q false h
@@ -59,12 +64,17 @@ module _ (s : Strategy) (mm : List (Name × ℕ)) (root : Filed) (log out : List
   proper : Each (IsProper s) more
   proper = subst (Each (IsProper s)) (sym m) (each-append (IsProper s) (take n log) (map entry_of ts) (each-take (IsProper s) n log a.proper) (all-proper ts names))
 
+  fit : Each (λ e. IsFit (number_of mm) (telling_of s e)) more
+  fit =
+      subst (Each (λ e. IsFit (number_of mm) (telling_of s e))) (sym m)
+      (each-append (λ e. IsFit (number_of mm) (telling_of s e)) (take n log) (map entry_of ts) (each-take (λ e. IsFit (number_of mm) (telling_of s e)) n log a.fit) (all-fit s (seen_as s mm log out n g) ts can))
+
   pub held-sound : AreSound s mm two more outs n g
   held-sound =
       record {
         suits = a.suits;
         agree = a.agree;
-        fit = subst (λ x. Each (IsFit (number_of mm)) (tellings_of s x)) (sym same-first) a.fit;
+        fit = fit;
         once = λ q. subst (λ x. Once (told_to (tellings_of s x) q)) (sym same-first) (a.once q);
         proper = proper;
         done = d;
@@ -90,15 +100,15 @@ module _ (s : Strategy) (mm : List (Name × ℕ)) (root : Filed) (log out : List
       }
 
   -- as many are new at the top as the tellings add
-  whole-count : (es xs : List Entry) → Each (IsProper s) es → kepts xs ≡ briefs (worked_items (store_for 0 s) (unit_news ∷ map news_of es)) → length xs ≡ length (matched_after s (tellings_of s es))
-  whole-count es xs h e =
+  whole-count : (es xs : List Entry) → Each (IsProper s) es → Each (λ e. IsFit (number_of mm) (telling_of s e)) es → kepts xs ≡ briefs (worked_items (store_for (number_of mm) 0 s) (unit_news ∷ map news_of es)) → length xs ≡ length (matched_after s (tellings_of s es))
+  whole-count es xs h f e =
       sym (length-map xs outcome_of)
-      ∙ sym (length_permutation (map outcome_of xs) (map (out_of s) (matched_after s (tellings_of s es))) (out-all s a.suits.leaves_differ es xs h e))
+      ∙ sym (length_permutation (map outcome_of xs) (map (out_of s) (matched_after s (tellings_of s es))) (out-all s a.suits.leaves_differ (number_of mm) a.agree es xs h f e))
       ∙ length-map (matched_after s (tellings_of s es)) (out_of s)
 
   pub held-count : length outs ≡ length (front n out) + count_of_added s (tellings_of s (take n log)) (map (told_view s) ts)
   held-count =
-      whole-count more outs proper (ap kepts (sym d.out_full) ∙ d.worked.items (length more) (omega arith) ∙ ap (λ l. briefs (worked_items (store_for 0 s) (unit_news ∷ map news_of l))) (take-length more))
+      whole-count more outs proper fit (ap kepts (sym d.out_full) ∙ d.worked.items (length more) (omega arith) ∙ ap (λ l. briefs (worked_items (store_for (number_of mm) 0 s) (unit_news ∷ map news_of l))) (take-length more))
       ∙ ap (λ l. length (matched_after s l)) (ap (tellings_of s) m ∙ map-append (telling_of s) (take n log) (map entry_of ts) ∙ ap (λ l. tellings_of s (take n log) ++ l) (listed-all s ts))
       ∙ (tellings-count s (tellings_of s (take n log)) (map (told_view s) ts) []).0
-      ∙ ap (λ k. k + count_of_added s (tellings_of s (take n log)) (map (told_view s) ts)) (sym (whole-count (take n log) (front n out) (each-take (IsProper s) n log a.proper) (a.done.worked.items n a.told_within)))
+      ∙ ap (λ k. k + count_of_added s (tellings_of s (take n log)) (map (told_view s) ts)) (sym (whole-count (take n log) (front n out) (each-take (IsProper s) n log a.proper) (each-take (λ e. IsFit (number_of mm) (telling_of s e)) n log a.fit) (a.done.worked.items n a.told_within)))

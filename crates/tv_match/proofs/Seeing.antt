@@ -13,13 +13,14 @@ use Rattle.tv_value.specs.Orders.{same_name}
 use Rattle.tv_value.specs.Strategies.{Strategy}
 use Rattle.tv_strategy.specs.Conditions.{times, EachOnce}
 use Rattle.tv_strategy.specs.Measures.{DotsAgree, leaf_names, strategy_depth}
-use Rattle.tv_strategy.proofs.PlaceLemmas.{same-itself}
+use Rattle.tv_strategy.proofs.PlaceLemmas.{same-itself, same-equal}
 use Rattle.tv_strategy.proofs.Each.{each-weaken}
+use Rattle.tv_strategy.proofs.Sources.{each-append}
 use Rattle.tv_matching.specs.Items.{Kind, Item, ends, closes, passes, item, if_so}
-use Rattle.tv_matching.specs.Levels.{KindAt}
+use Rattle.tv_matching.specs.Levels.{KindAt, AreLeveled}
 use Rattle.tv_matching.specs.Members.{Once}
 use Rattle.tv_matching.specs.Matched.{matched, one_end}
-use Rattle.tv_matching.specs.Told.{Spot, told_to, matched_after, Marked, marked, marked_to, marked_after, IsFit}
+use Rattle.tv_matching.specs.Told.{Spot, Told, arrival, faulty, close, told_to, matched_after, Marked, marked, marked_to, marked_after, IsFit}
 use Rattle.tv_matching.specs.Matchers.{Kept, kept_item, kept_of, kept_out, kept_kind_out, leaf_name, leaf_number, out}
 use Rattle.tv_matching.specs.Stores.{store_for, AreNumbered, items, told_by_all, worked_items}
 use Rattle.tv_matching.proofs.Lists.{map-same, map-if, each-map}
@@ -108,6 +109,20 @@ leaf-there p q (kinds.Kind.Job false) = refl
 leaf-there p q (kinds.Kind.Closed n) = refl
 leaf-there p q (kinds.Kind.Passed l) = refl
 
+marked-level : (mismatch : Name → ℕ) (t : Told) → IsFit mismatch t → KindAt (mismatch (marked t).leaf) (marked t).item.place (marked t).item.kind
+marked-level mismatch (arrival p q false) h = h
+marked-level mismatch (arrival p q true) h = h
+marked-level mismatch (faulty p q) h = h
+marked-level mismatch (close p q n) h = h
+
+marked-leveled : (mismatch : Name → ℕ) (ts : List Told) → Each (IsFit mismatch) ts → (p : Name) → AreLeveled (mismatch p) (marked_to ts p)
+marked-leveled mismatch [] h p = tt
+marked-leveled mismatch (t ∷ ts) h p = each-append (λ (x : Item Marked Spot). KindAt (mismatch p) x.place x.kind) (if_so (same_name p (marked t).leaf) (marked t).item) (marked_to ts p) (by (same_name p (marked t).leaf) refl) (marked-leveled mismatch ts h.1 p)
+  where
+    by : (b : Bool) → same_name p (marked t).leaf ≡ b → Each (λ (x : Item Marked Spot). KindAt (mismatch p) x.place x.kind) (if_so b (marked t).item)
+    by false e = tt
+    by true e = (subst (λ r. KindAt (mismatch r) (marked t).item.place (marked t).item.kind) (sym (same-equal p (marked t).leaf e)) (marked-level mismatch t h.0), tt)
+
 module _ (s : Strategy) (apart : EachOnce (leaf_names s) (leaf_names s)) where
   told-leaf : (i : ℕ) → i < length (leaf_names s) → (es : List Entry) → Each (IsProper s) es → told_by_all (map news_of es) (Some i) ≡ kept_of s (map (telling_of s) es) (leaf_name s i)
   told-leaf i l [] h = refl
@@ -136,13 +151,22 @@ module _ (s : Strategy) (apart : EachOnce (leaf_names s) (leaf_names s)) where
       next : (i j : ℕ) → suc i + j ≡ i + suc j
       next i j = omega arith
 
-  pub worked-matched : (es : List Entry) → Each (IsProper s) es → IsPermutation (worked_items (store_for 0 s) (unit_news ∷ map news_of es)) (matched (kept_of s (map (telling_of s) es)) s)
-  worked-matched es h =
+  -- what is kept of fit tellings is leveled
+  kept-leveled : (mismatch : Name → ℕ) (ts : List Told) → Each (IsFit mismatch) ts → (p : Name) → AreLeveled (mismatch p) (kept_of s ts p)
+  kept-leveled mismatch ts h p = each-map (λ (x : Kept). KindAt (mismatch p) x.place x.kind) (kept_item s) (marked_to ts p) (each-weaken (λ (x : Item Marked Spot). KindAt (mismatch p) x.place x.kind) (λ (x : Item Marked Spot). KindAt (mismatch p) (kept_item s x).place (kept_item s x).kind) (λ x. bare-level (mismatch p) x.place x.kind) (marked_to ts p) (marked-leveled mismatch ts h p))
+    where
+      bare-level : (d : ℕ) (q : Place) (k : Kind Marked Spot) → KindAt d q k → KindAt d q (kept_item s (item q k)).kind
+      bare-level d q (ends b) h = h
+      bare-level d q (closes n) h = h
+      bare-level d q (passes f) h = h
+
+  pub worked-matched : (mismatch : Name → ℕ) → DotsAgree mismatch s → (es : List Entry) → Each (IsProper s) es → Each (λ e. IsFit mismatch (telling_of s e)) es → IsPermutation (worked_items (store_for mismatch 0 s) (unit_news ∷ map news_of es)) (matched (kept_of s (map (telling_of s) es)) s)
+  worked-matched mismatch agree es h fit =
       let ns = unit_news ∷ map news_of es in
       let told = told_by_all ns in
-      let works = (store-works (λ l. []) (store_for 0 s) ns (store-starts s)).1 in
-      subst (IsPermutation (worked_items (store_for 0 s) ns)) (store-is_matched told (kept_of s (map (telling_of s) es)) s none (numbered told (kept_of s (map (telling_of s) es)) 0 (leaf_names s) each))
-      (IsPermutation-sym _ _ (subst (λ l. IsPermutation (items told (store_for 0 s)) (l ++ worked_items (store_for 0 s) ns)) (items-none (store_for 0 s)) works))
+      let works = (store-works (λ l. []) (store_for mismatch 0 s) ns (store-starts mismatch s)).1 in
+      subst (IsPermutation (worked_items (store_for mismatch 0 s) ns)) (store-is_matched told (kept_of s (map (telling_of s) es)) mismatch (kept-leveled mismatch (map (telling_of s) es) (each-map (IsFit mismatch) (telling_of s) es fit)) s agree none (numbered told (kept_of s (map (telling_of s) es)) 0 (leaf_names s) each))
+      (IsPermutation-sym _ _ (subst (λ l. IsPermutation (items told (store_for mismatch 0 s)) (l ++ worked_items (store_for mismatch 0 s) ns)) (items-none (store_for mismatch 0 s)) works))
     where
       none : told_by_all (unit_news ∷ map news_of es) None ≡ one_end
       none = ap (λ l. one_end ++ l) (none-told es)
@@ -173,11 +197,11 @@ module _ (s : Strategy) (apart : EachOnce (leaf_names s) (leaf_names s)) where
       one q (passes l) = refl
 
   -- the items of what was told come out
-  pub out-all : (es xs : List Entry) → Each (IsProper s) es → kepts xs ≡ briefs (worked_items (store_for 0 s) (unit_news ∷ map news_of es)) → IsPermutation (map outcome_of xs) (map (out s) (matched_after s (map (telling_of s) es)))
-  out-all es xs h e =
-      subst (λ l. IsPermutation l (map (out s) (matched_after s (map (telling_of s) es)))) (sym (outs xs ∙ ap (map kept_out) e ∙ brief-outs (worked_items (store_for 0 s) (unit_news ∷ map news_of es))))
-      (subst (IsPermutation (map kept_out (worked_items (store_for 0 s) (unit_news ∷ map news_of es)))) (kept-is_enough s (map (telling_of s) es)).1
-      (IsPermutation-map kept_out (worked_items (store_for 0 s) (unit_news ∷ map news_of es)) (matched (kept_of s (map (telling_of s) es)) s) (worked-matched es h)))
+  pub out-all : (mismatch : Name → ℕ) → DotsAgree mismatch s → (es xs : List Entry) → Each (IsProper s) es → Each (λ e. IsFit mismatch (telling_of s e)) es → kepts xs ≡ briefs (worked_items (store_for mismatch 0 s) (unit_news ∷ map news_of es)) → IsPermutation (map outcome_of xs) (map (out s) (matched_after s (map (telling_of s) es)))
+  out-all mismatch agree es xs h fit e =
+      subst (λ l. IsPermutation l (map (out s) (matched_after s (map (telling_of s) es)))) (sym (outs xs ∙ ap (map kept_out) e ∙ brief-outs (worked_items (store_for mismatch 0 s) (unit_news ∷ map news_of es))))
+      (subst (IsPermutation (map kept_out (worked_items (store_for mismatch 0 s) (unit_news ∷ map news_of es)))) (kept-is_enough s (map (telling_of s) es)).1
+      (IsPermutation-map kept_out (worked_items (store_for mismatch 0 s) (unit_news ∷ map news_of es)) (matched (kept_of s (map (telling_of s) es)) s) (worked-matched mismatch agree es h fit)))
 
 -- ---- one telling for one entry
 
@@ -289,14 +313,15 @@ pub each-of-map : {A B : Type 0} (P : B → Type 0) (f : A → B) (xs : List A) 
 each-of-map P f [] h = tt
 each-of-map P f (x ∷ xs) h = (h.0, each-of-map P f xs h.1)
 
-pub places-short : (s : Strategy) (mismatch : Name → ℕ) (apart : EachOnce (leaf_names s) (leaf_names s)) (es xs : List Entry) → Each (IsProper s) es → Each (IsFit mismatch) (map (telling_of s) es) → ((p : Name) → Once (told_to (map (telling_of s) es) p)) → DotsAgree mismatch s → kepts xs ≡ briefs (worked_items (store_for 0 s) (unit_news ∷ map news_of es)) → (i : ℕ) → i < length xs → length (entry_at xs i).place ≤ strategy_depth mismatch s
-places-short s mismatch apart es xs proper fit once agree e i l =
+pub places-short : (s : Strategy) (mismatch : Name → ℕ) (apart : EachOnce (leaf_names s) (leaf_names s)) (es xs : List Entry) → Each (IsProper s) es → Each (λ e. IsFit mismatch (telling_of s e)) es → ((p : Name) → Once (told_to (map (telling_of s) es) p)) → DotsAgree mismatch s → kepts xs ≡ briefs (worked_items (store_for mismatch 0 s) (unit_news ∷ map news_of es)) → (i : ℕ) → i < length xs → length (entry_at xs i).place ≤ strategy_depth mismatch s
+places-short s mismatch apart es xs proper fits once agree e i l =
     let d = strategy_depth mismatch s in
     let short : Kept → Type 0 = λ y. length y.place ≤ d in
     let ts = map (telling_of s) es in
+    let fit = each-map (IsFit mismatch) (telling_of s) es fits in
     let leveled = (matches-once mismatch ts fit once s agree).1 in
     let there : Each (λ (x : Item Spot Spot). length x.place ≤ d) (matched_after s ts) = each-weaken (λ (x : Item Spot Spot). KindAt d x.place x.kind) (λ (x : Item Spot Spot). length x.place ≤ d) (kind-short d) (matched_after s ts) leveled in
     let marked_there : Each (λ (x : Item Marked Spot). length x.place ≤ d) (marked_after s ts) = each-of-map (λ (x : Item Spot Spot). length x.place ≤ d) plain (marked_after s ts) (subst (Each (λ (x : Item Spot Spot). length x.place ≤ d)) (sym (marked-is_matched s ts)) there) in
     let kept_there : Each short (matched (kept_of s ts) s) = subst (Each short) (sym (kept-is_enough s ts).0) (each-map short (kept_item s) (marked_after s ts) marked_there) in
-    let all : Each short (worked_items (store_for 0 s) (unit_news ∷ map news_of es)) = each-permutes short (matched (kept_of s ts) s) _ (IsPermutation-sym _ _ (worked-matched s apart es proper)) kept_there in
+    let all : Each short (worked_items (store_for mismatch 0 s) (unit_news ∷ map news_of es)) = each-permutes short (matched (kept_of s ts) s) _ (IsPermutation-sym _ _ (worked-matched s apart mismatch agree es proper fits)) kept_there in
     entry-of short xs i (subst (Each short) (sym e) (each-map short brief _ all)) l

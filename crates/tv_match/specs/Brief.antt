@@ -23,5 +23,5 @@ abbrev pub brief_store : Store (Unit {0}) ℕ → Store (Unit {0}) ℕ
 brief_store (leaf_store l) = leaf_store l
 brief_store (cross_store es ys f r) = cross_store (briefs es) (briefs ys) (brief_store f)
     (brief_store r)
-brief_store (dot_store xs ys f r) = dot_store (briefs xs) (briefs ys) (brief_store f)
+brief_store (dot_store k xs ys f r) = dot_store k (briefs xs) (briefs ys) (brief_store f)
     (brief_store r)

@@ -4,7 +4,8 @@ use Rattle.tv_lemmas.specs.Members.{Each}
 use Rattle.tv_value.specs.Nested.{Place}
 use Rattle.tv_matching.specs.Items as items
 use Rattle.tv_matching.specs.Items.{ends, closes, passes, item, if_so}
-use Rattle.tv_matching.specs.Stores.{latest_at}
+use Rattle.tv_matching.specs.Matched.{same}
+use Rattle.tv_matching.specs.Stores.{latest_by}
 use Rattle.tv_matching.specs.Matchers.{Kept}
 use Rattle.tv_match.specs.declared.kinds.Kind as code
 
@@ -56,12 +57,16 @@ pub record AreMore (n : ℕ) (old new : List Entry) : Type 0 where
   pub new_is : new ≡ old ++ more
   pub are_of : Each (λ e. e.number ≡ n) more
 
--- the item at i is the last before `before` that stands at the place
-pub record FoundBefore (q : Place) (es : List Entry) (before i : ℕ) : Type 0 where
+-- the item at i is the last before `before` that has this key
+pub record FoundBy (key : Place → Place) (q : Place) (es : List Entry) (before i : ℕ) : Type 0 where
   pub is_before : i < before
-  pub is_there : (entry_at es i).place ≡ q
-  pub is_last : latest_at q (kepts (take before es)) ≡ kept_entry (entry_at es i)
-      ∷ latest_at q (kepts (take i es))
+  pub is_there : key (entry_at es i).place ≡ q
+  pub is_last : latest_by key q (kepts (take before es)) ≡ kept_entry (entry_at es i)
+      ∷ latest_by key q (kepts (take i es))
+
+-- that stands at the place
+abbrev pub FoundBefore : Place → List Entry → ℕ → ℕ → Type 0
+FoundBefore q es before i = FoundBy same q es before i
 
 -- no item has a smaller number than one before it
 abbrev pub Rise : List Entry → Type 0

@@ -3,6 +3,8 @@ pub mod OneLeaf
 pub mod Brief
 pub mod Slots
 pub mod Linked
+pub mod Chained
+pub mod Grouped
 pub mod Filed
 pub mod Placed
 pub mod Working

@@ -1,7 +1,7 @@
 -- Strategies that are one leaf, or have one child that is.
 use Rattle.std.specs.Prelude.{◌≡◌}
 use Rattle.tv_value.specs.Values.{Name}
-use Rattle.tv_value.specs.Strategies.{Strategies, Strategy, cross, dot, no_strategies, port, strategy}
+use Rattle.tv_value.specs.Strategies.{Strategies, Strategy, cross, dot, prefix, no_strategies, port, strategy}
 
 -- there is one child, a leaf
 abbrev pub IsOnlyLeaf : Strategies → Type 0
@@ -11,3 +11,4 @@ abbrev pub IsOneLeaf : Strategy → Type 0
 IsOneLeaf (port p) = Unit {0}
 IsOneLeaf (cross cs) = IsOnlyLeaf cs
 IsOneLeaf (dot cs) = IsOnlyLeaf cs
+IsOneLeaf (prefix l r) = ⊥

@@ -85,10 +85,10 @@ pub record AreSound (s : Strategy) (mismatch : List (Name × ℕ)) (root : Filed
     (log out : List Entry) (n g : ℕ) : Type 0 where
   pub suits : Suits mismatch s
   pub agree : DotsAgree (number_of mismatch) s
-  pub fit : Each (IsFit (number_of mismatch)) (tellings_of s (take n log))
+  pub fit : Each (λ e. IsFit (number_of mismatch) (telling_of s e)) log
   pub once : (p : Name) → Once (told_to (tellings_of s (take n log)) p)
   pub proper : Each (IsProper s) log
-  pub done : IsDone s root log out
+  pub done : IsDone (number_of mismatch) s root log out
   pub told_within : n ≤ length log
   pub given_within : g ≤ length (front n out)
 

@@ -1,12 +1,13 @@
-ghost use Rattle.std.specs.Prelude.{◌≡◌, ◌<◌, ◌++◌, ◌∷◌, [], length, map, drop, OnOk};
+ghost use Rattle.std.specs.Prelude.{◌≡◌, ◌<◌, ◌++◌, ◌∷◌, [], length, map, drop, take, OnOk};
 ghost use Rattle.tv_matching.specs.Items.{if_so};
-ghost use Rattle.tv_matching.specs.Matched.{bound as also_bound, below, crossed_items, below_jobs, meet_kinds as both_met};
-ghost use Rattle.tv_matching.specs.Stores.{only_jobs, met_by_first, met_by_second};
+ghost use Rattle.tv_matching.specs.Matched.{same, bound as also_bound, below, crossed_items, below_jobs, meet_kinds as both_met};
+ghost use Rattle.tv_matching.specs.Stores.{key_of, only_jobs, met_by_first, met_by_second};
 ghost use Rattle.tv_match.specs.Entries.{kepts, kept_entry, kind_view, entry_at, AreMore};
 ghost use Rattle.tv_match.specs.Brief.{brief_kind, briefs};
 
 use crate::bags::Bag;
 use crate::found::Found;
+use crate::grouped::{Grouped, first_indices};
 use crate::kinds::Kind;
 use tv_value::NoMemory;
 
@@ -142,7 +143,7 @@ pub fn push_jobs(xs: &Bag, number: usize, out: &mut Bag) -> Result<(), NoMemory>
     Ok(())
 }
 
-/// What stands where these two meet in a dot: the first fault stands, lists are zipped to the shorter.
+/// What stands where these two meet in a dot or a prefix node: the first fault stands, lists are zipped to the shorter.
 fn met(first: Kind, second: Kind) -> Kind
     ensures { kind_view result ≡ brief_kind (both_met (kind_view first) (kind_view second)) }
 {
@@ -165,7 +166,7 @@ fn push_met_first(
 ) -> Result<(), NoMemory>
     requires { at < length xs.now }
     ensures ok { OnOk result (kepts out.new ≡ kepts out.old
-        ++ briefs (met_by_first (kept_entry (entry_at xs.now at) ∷ []) (kepts ys.now))) }
+        ++ briefs (met_by_first same (kept_entry (entry_at xs.now at) ∷ []) (kepts ys.now))) }
     ensures more { AreMore number out.old out.new }
 {
     let place = xs.place(at);
@@ -178,23 +179,64 @@ fn push_met_first(
     Ok(())
 }
 
-/// Puts what an item of the second child of a dot meets in the first. A look-up, and linear in what it puts.
+/// Puts what an item of the first child of a prefix node meets in the second. A look-up, and linear in what it puts.
+fn push_met_below(
+    xs: &Bag,
+    at: usize,
+    ys: &Grouped,
+    number: usize,
+    out: &mut Bag,
+) -> Result<(), NoMemory>
+    requires { at < length xs.now }
+    ensures ok { OnOk result (kepts out.new ≡ kepts out.old
+        ++ briefs (met_by_first (take ys.now.depth) (kept_entry (entry_at xs.now at) ∷ [])
+        (kepts ys.now.items))) }
+    ensures more { AreMore number out.old out.new }
+{
+    let kind = xs.kind(at);
+    let mut next = ys.last(xs.place(at));
+    while let Some(found) = next {
+        out.push(
+            ys.bag().place(found),
+            &[],
+            met(kind, ys.bag().kind(found)),
+            number,
+        )?;
+        next = ys.before(found);
+    }
+    Ok(())
+}
+
+/// By which place of the first child an item of the second is met: by its own in a dot, by so many of its first indices in a
+/// prefix node.
+fn key(place: &[u32], depth: Option<usize>) -> &[u32]
+    ensures { result.now ≡ key_of depth place.now }
+{
+    match depth {
+        None => place,
+        Some(depth) => first_indices(place, depth),
+    }
+}
+
+/// Puts what an item of the second child meets in the first. A look-up, and linear in what it puts.
 fn push_met_second(
     xs: &Found,
     ys: &Bag,
     at: usize,
+    depth: Option<usize>,
     number: usize,
     out: &mut Bag,
 ) -> Result<(), NoMemory>
     requires { at < length ys.now }
-    ensures ok { OnOk result (kepts out.new ≡ kepts out.old
-        ++ briefs (met_by_second (kepts xs.now) (kept_entry (entry_at ys.now at) ∷ []))) }
+    ensures ok { OnOk result (kepts out.new ≡ kepts out.old ++ briefs (met_by_second (key_of depth)
+        (kepts xs.now) (kept_entry (entry_at ys.now at) ∷ []))) }
     ensures more { AreMore number out.old out.new }
 {
     let place = ys.place(at);
     let kind = ys.kind(at);
+    let key = key(place, depth);
     let mut before = xs.bag().len();
-    while let Some(found) = xs.latest(place, before) {
+    while let Some(found) = xs.latest(key, before) {
         out.push(place, &[], met(xs.bag().kind(found), kind), number)?;
         before = found;
     }
@@ -209,7 +251,7 @@ pub fn push_all_met_first(
     out: &mut Bag,
 ) -> Result<(), NoMemory>
     ensures ok { OnOk result (kepts out.new ≡ kepts out.old
-        ++ briefs (met_by_first (kepts xs.now) (kepts ys.now))) }
+        ++ briefs (met_by_first same (kepts xs.now) (kepts ys.now))) }
     ensures more { AreMore number out.old out.new }
 {
     for i in 0..xs.len() {
@@ -218,19 +260,37 @@ pub fn push_all_met_first(
     Ok(())
 }
 
-/// Puts what the second child's new items meet in a dot.
-pub fn push_all_met_second(
-    xs: &Found,
-    ys: &Bag,
+/// Puts what the first child's new items meet in a prefix node.
+pub fn push_all_met_below(
+    xs: &Bag,
+    ys: &Grouped,
     number: usize,
     out: &mut Bag,
 ) -> Result<(), NoMemory>
     ensures ok { OnOk result (kepts out.new ≡ kepts out.old
-        ++ briefs (met_by_second (kepts xs.now) (kepts ys.now))) }
+        ++ briefs (met_by_first (take ys.now.depth) (kepts xs.now) (kepts ys.now.items))) }
+    ensures more { AreMore number out.old out.new }
+{
+    for i in 0..xs.len() {
+        push_met_below(xs, i, ys, number, out)?;
+    }
+    Ok(())
+}
+
+/// Puts what the second child's new items meet, in a dot, or in a prefix node with so many first indices.
+pub fn push_all_met_second(
+    xs: &Found,
+    ys: &Bag,
+    depth: Option<usize>,
+    number: usize,
+    out: &mut Bag,
+) -> Result<(), NoMemory>
+    ensures ok { OnOk result (kepts out.new ≡ kepts out.old
+        ++ briefs (met_by_second (key_of depth) (kepts xs.now) (kepts ys.now))) }
     ensures more { AreMore number out.old out.new }
 {
     for i in 0..ys.len() {
-        push_met_second(xs, ys, i, number, out)?;
+        push_met_second(xs, ys, i, depth, number, out)?;
     }
     Ok(())
 }
@@ -239,6 +299,18 @@ pub fn push_all_met_second(
 pub fn find_all(xs: &Bag, number: usize, out: &mut Found) -> Result<(), NoMemory>
     ensures ok { OnOk result (kepts out.new ≡ kepts out.old ++ kepts xs.now) }
     ensures more { AreMore number out.old out.new }
+{
+    for i in 0..xs.len() {
+        out.push(xs.place(i), xs.kind(i), number)?;
+    }
+    Ok(())
+}
+
+/// Adds items to those that are found by their first indices.
+pub fn group_all(xs: &Bag, number: usize, out: &mut Grouped) -> Result<(), NoMemory>
+    ensures ok { OnOk result (kepts out.new.items ≡ kepts out.old.items ++ kepts xs.now) }
+    ensures more { AreMore number out.old.items out.new.items }
+    ensures depth { out.new.depth ≡ out.old.depth }
 {
     for i in 0..xs.len() {
         out.push(xs.place(i), xs.kind(i), number)?;

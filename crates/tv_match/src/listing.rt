@@ -1,4 +1,5 @@
 ghost use Rattle.std.specs.Prelude.{◌≡◌, ℕ, ◌≤◌, ◌++◌, ◌∷◌, [], length, map, take, OnOk};
+ghost use Rattle.tv_value.specs.Values.{Name};
 ghost use Rattle.tv_value.specs.Strategies.{Strategy};
 ghost use Rattle.tv_match.specs.Entries.{front, Rise};
 ghost use Rattle.tv_match.specs.Filed.{filed};
@@ -15,10 +16,11 @@ use tv_value::NoMemory;
 /// Works a telling.
 fn work_told(root: &mut Store, log: &mut Bag, out: &mut Bag, told: &Told) -> Result<(), NoMemory>
     ensures log { OnOk result (log.new ≡ log.old ++ entry_of told.now ∷ []) }
-    ensures done { OnOk result ((s : Strategy) → IsDone s (filed root.old) log.old out.old
-        → IsDone s (filed root.new) log.new out.new) }
-    ensures still { (s : Strategy) → IsDone s (filed root.old) log.old out.old
-        → IsWorked s (length log.old) (filed root.new) log.new out.new × Rise out.new }
+    ensures done { OnOk result ((ports : Name → ℕ) (s : Strategy)
+        → IsDone ports s (filed root.old) log.old out.old
+        → IsDone ports s (filed root.new) log.new out.new) }
+    ensures still { (ports : Name → ℕ) (s : Strategy) → IsDone ports s (filed root.old) log.old out.old
+        → IsWorked ports s (length log.old) (filed root.new) log.new out.new × Rise out.new }
     ensures listed { take (length log.old) log.new ≡ log.old }
     ensures front { (k : ℕ) → k ≤ length log.old → front k out.new ≡ front k out.old }
     ensures grows { length out.old ≤ length out.new }
@@ -59,10 +61,11 @@ pub fn work_all(
     tolds: &[Told],
 ) -> Result<(), NoMemory>
     ensures log { OnOk result (log.new ≡ log.old ++ map entry_of tolds.now) }
-    ensures done { OnOk result ((s : Strategy) → IsDone s (filed root.old) log.old out.old
-        → IsDone s (filed root.new) log.new out.new) }
-    ensures still { (s : Strategy) → IsDone s (filed root.old) log.old out.old
-        → IsWorked s (length log.old) (filed root.new) log.new out.new × Rise out.new }
+    ensures done { OnOk result ((ports : Name → ℕ) (s : Strategy)
+        → IsDone ports s (filed root.old) log.old out.old
+        → IsDone ports s (filed root.new) log.new out.new) }
+    ensures still { (ports : Name → ℕ) (s : Strategy) → IsDone ports s (filed root.old) log.old out.old
+        → IsWorked ports s (length log.old) (filed root.new) log.new out.new × Rise out.new }
     ensures listed { take (length log.old) log.new ≡ log.old }
     ensures front { (k : ℕ) → k ≤ length log.old → front k out.new ≡ front k out.old }
     ensures grows { length out.old ≤ length out.new }

@@ -57,7 +57,7 @@ impl Matcher {
         ensures ok { IfOk result (λ m. Starts (strategy_view tree.now) mismatch.now (matching m)) }
         ensures sound { IfOk result (λ m. IsSound m) }
     {
-        let built = build(alloc, tree, 0)?;
+        let built = build(alloc, tree, mismatch, 0)?;
         let mut root = built.store;
         let mut out = Bag::new(alloc);
         begin(&mut root, &mut out)?;
@@ -94,8 +94,8 @@ impl Matcher {
     }
 
     /// As `start`, in the place and the memory of this one, whatever it was told. Where that is of an equal strategy with equal
-    /// numbers, it keeps its copies of them. Takes the strategy's depth, which is not measured again. Where it is refused nothing
-    /// is promised of it.
+    /// numbers, it keeps its copies of them. Takes the strategy's depth, which is not measured again. After a refusal it can only be
+    /// restarted: nothing else is promised of it, and every other call asks for a sound matcher.
     pub fn restart(&mut self, tree: &Tree, mismatch: &Depths, depth: u32) -> Result<(), NoMemory>
         requires suits { Suits mismatch.now (strategy_view tree.now) }
         requires agree { DotsAgree (number_of mismatch.now) (strategy_view tree.now) }
@@ -106,7 +106,7 @@ impl Matcher {
     {
         keep_tree(self.alloc, &mut self.tree, tree)?;
         keep_depths(self.alloc, &mut self.mismatch, mismatch)?;
-        rebuild(self.alloc, &mut self.root, tree)?;
+        rebuild(self.alloc, &mut self.root, tree, mismatch)?;
         self.log.truncate(0);
         self.out.truncate(0);
         self.told = 0;
@@ -188,8 +188,8 @@ impl Matcher {
 
     /// A bound value of which nobody says that it holds a fault has arrived, or a fault on the way there.
     ///
-    /// Linear in what is new at the nodes of the strategy, and in the strategy, with a logarithm for each item in a dot. Constant
-    /// for the next held telling. Where others are held, it copies all that is kept before.
+    /// Linear in what is new at the nodes of the strategy, and in the strategy, with a logarithm for each item in a dot or
+    /// prefix node. Constant for the next held telling. Where others are held, it copies all that is kept before.
     pub fn on_arrival(&mut self, leaf: u32, place: &Place, fault: bool) -> Result<(), NoMemory>
         requires sound { IsSound self.old }
         requires leaf { leaf < length (leaf_names (matching self.old).strategy) }
@@ -215,8 +215,8 @@ impl Matcher {
 
     /// A bound value that holds a fault has arrived.
     ///
-    /// Linear in what is new at the nodes of the strategy, and in the strategy, with a logarithm for each item in a dot. Constant
-    /// for the next held telling. Where others are held, it copies all that is kept before.
+    /// Linear in what is new at the nodes of the strategy, and in the strategy, with a logarithm for each item in a dot or
+    /// prefix node. Constant for the next held telling. Where others are held, it copies all that is kept before.
     pub fn on_faulty(&mut self, leaf: u32, place: &Place) -> Result<(), NoMemory>
         requires sound { IsSound self.old }
         requires leaf { leaf < length (leaf_names (matching self.old).strategy) }
@@ -238,8 +238,8 @@ impl Matcher {
 
     /// A list on the way is closed.
     ///
-    /// Linear in what is new at the nodes of the strategy, and in the strategy, with a logarithm for each item in a dot. Constant
-    /// for the next held telling. Where others are held, it copies all that is kept before.
+    /// Linear in what is new at the nodes of the strategy, and in the strategy, with a logarithm for each item in a dot or
+    /// prefix node. Constant for the next held telling. Where others are held, it copies all that is kept before.
     pub fn on_close(&mut self, leaf: u32, place: &Place, length: u32) -> Result<(), NoMemory>
         requires sound { IsSound self.old }
         requires leaf { leaf < Rattle.std.specs.Prelude.length
@@ -261,10 +261,10 @@ impl Matcher {
         self.tell(leaf, place.as_slice(), Kind::Closed(length))
     }
 
-    /// A leaf has its whole value, which is said to hold a fault or none, where no telling is held. Where it is refused nothing is
-    /// promised of the matcher.
+    /// A leaf has its whole value, which is said to hold a fault or none, where no telling is held.
     ///
-    /// Linear in what is new at the nodes of the strategy, and in the strategy, with a logarithm for each item in a dot.
+    /// Linear in what is new at the nodes of the strategy, and in the strategy, with a logarithm for each item in a dot or
+    /// prefix node.
     pub fn tell_bound(&mut self, leaf: u32, faulty: bool) -> Result<(), NoMemory>
         requires sound { IsSound self.old }
         requires leaf { leaf < length (leaf_names (matching self.old).strategy) }
@@ -274,21 +274,35 @@ impl Matcher {
         ensures ok { OnOk result (IsTold (bound_telling (matching self.old).strategy leaf faulty)
             (matching self.old) (matching self.new)) }
         ensures held { OnOk result ((matching self.new).held ≡ []) }
-        ensures sound { OnOk result (IsSound self.new) }
+        ensures refused { OnErr result (IsUnchanged self.old self.new) }
+        ensures sound { IsSound self.new }
     {
         let before = self.out.len();
         let kind = Kind::Job { faulty };
-        work(
+        match work(
             &mut self.root,
             &mut self.log,
             &mut self.out,
             leaf,
             &[],
             kind,
-        )?;
-        self.places.make(&self.out, before)?;
-        self.told = self.log.len();
-        Ok(())
+        ) {
+            Ok(()) => {}
+            Err(error) => {
+                take_back(&mut self.root, &mut self.log, &mut self.out, self.told);
+                return Err(error);
+            }
+        }
+        match self.places.make(&self.out, before) {
+            Ok(()) => {
+                self.told = self.log.len();
+                Ok(())
+            }
+            Err(error) => {
+                take_back(&mut self.root, &mut self.log, &mut self.out, self.told);
+                Err(error)
+            }
+        }
     }
 
     /// The next thing that has not come out yet. Takes no memory: places that are too long for that were made beforehand.

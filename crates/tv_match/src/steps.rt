@@ -1,4 +1,5 @@
 ghost use Rattle.std.specs.Prelude.{◌≡◌, ℕ, ◌+◌, ◌≤◌, ◌++◌, ◌∷◌, [], length, take, OnOk};
+ghost use Rattle.tv_value.specs.Values.{Name};
 ghost use Rattle.tv_value.specs.Strategies.{Strategy};
 ghost use Rattle.tv_matching.specs.Stores.{gain, grown, told_by};
 ghost use Rattle.tv_match.specs.Brief.{briefs, brief_store};
@@ -42,10 +43,11 @@ pub fn work(
     kind: Kind,
 ) -> Result<(), NoMemory>
     ensures log { OnOk result (log.new ≡ log.old ++ entry leaf place.now kind ∷ []) }
-    ensures done { OnOk result ((s : Strategy) → IsDone s (filed root.old) log.old out.old
-        → IsDone s (filed root.new) log.new out.new) }
-    ensures still { (s : Strategy) → IsDone s (filed root.old) log.old out.old
-        → IsWorked s (length log.old) (filed root.new) log.new out.new × Rise out.new }
+    ensures done { OnOk result ((ports : Name → ℕ) (s : Strategy)
+        → IsDone ports s (filed root.old) log.old out.old
+        → IsDone ports s (filed root.new) log.new out.new) }
+    ensures still { (ports : Name → ℕ) (s : Strategy) → IsDone ports s (filed root.old) log.old out.old
+        → IsWorked ports s (length log.old) (filed root.new) log.new out.new × Rise out.new }
     ensures listed { take (length log.old) log.new ≡ log.old }
     ensures more { AreMore (length log.old + 1) out.old out.new }
 {
@@ -63,9 +65,9 @@ pub fn work(
 pub fn take_back(root: &mut Store, log: &mut Bag, out: &mut Bag, told: usize)
     ensures log { log.new ≡ take told log.old }
     ensures out { out.new ≡ front told out.old }
-    ensures done { (s : Strategy) (m : ℕ) → told ≤ m → m ≤ length log.old
-        → IsWorked s m (filed root.old) log.old out.old → Rise out.old
-        → IsDone s (filed root.new) log.new out.new }
+    ensures done { (ports : Name → ℕ) (s : Strategy) (m : ℕ) → told ≤ m → m ≤ length log.old
+        → IsWorked ports s m (filed root.old) log.old out.old → Rise out.old
+        → IsDone ports s (filed root.new) log.new out.new }
 {
     root.cut(told);
     log.truncate(told);

@@ -1,17 +1,17 @@
 ghost use Rattle.std.specs.Prelude.{◌≡◌, ◌++◌, IfOk, OnOk};
 ghost use Rattle.tv_matching.specs.Matched.{crossed_items, below_jobs};
-ghost use Rattle.tv_matching.specs.Stores.{gain, grown, told_by, same_leaf, only_jobs, met_by_first, met_by_second};
+ghost use Rattle.tv_matching.specs.Stores.{gain, grown, told_by, same_leaf, key_of, only_jobs, met_by_first, met_by_second};
 ghost use Rattle.tv_match.specs.Entries.{kepts, AreMore};
 ghost use Rattle.tv_match.specs.Brief.{briefs, brief_store};
-ghost use Rattle.tv_match.specs.Filed.{filed, kept_store, fronted, Adds, news_view};
+ghost use Rattle.tv_match.specs.Filed.{filed, kept_store, fronted, Adds, news_view, rests_view};
 
 use crate::bags::Bag;
 use crate::found::Found;
 use crate::joins::{
-    find_all, push_all, push_all_met_first, push_all_met_second, push_below_jobs, push_crossed,
-    push_jobs,
+    find_all, push_all, push_all_met_second, push_below_jobs, push_crossed, push_jobs,
 };
 use crate::kinds::Kind;
+use crate::rests::Rests;
 use std::alloc::Global;
 use tv_value::NoMemory;
 
@@ -24,7 +24,8 @@ pub struct News<'a> {
     pub number: usize,
 }
 
-/// What is kept of a strategy: for a cross the jobs of its first child and all that the second has, for a dot what both have.
+/// What is kept of a strategy: for a cross the jobs of its first child and all that the second has, for a dot or a prefix node what
+/// both have.
 ///
 /// Each has room for what is new in a child.
 #[derive(Drop)]
@@ -33,7 +34,8 @@ pub enum Store {
     /// A leaf with its number, or a strategy without children.
     Leaf(Option<u32>),
     Cross(Bag, Bag, Bag, Box<Store>, Box<Store>),
-    Dot(Found, Found, Bag, Box<Store>, Box<Store>),
+    /// Of a dot or a prefix node.
+    Dot(Found, Rests, Bag, Box<Store>, Box<Store>),
 }
 
 impl Store {
@@ -122,8 +124,9 @@ pub(crate) fn copies_of_bags(alloc: Global, first: &Bag, rest: &Bag) -> Result<(
 }
 
 /// Copies of two bags with their look-ups.
-fn copies_of_found(alloc: Global, first: &Found, rest: &Found) -> Result<(Found, Found), NoMemory>
-    ensures { IfOk result (λ p. p ≡ (first.now, rest.now)) }
+fn copies_of_found(alloc: Global, first: &Found, rest: &Rests) -> Result<(Found, Rests), NoMemory>
+    ensures first { IfOk result (λ p. p.0 ≡ first.now) }
+    ensures rest { IfOk result (λ p. rests_view p.1 ≡ rests_view rest.now) }
 {
     let first = first.copy(alloc)?;
     Ok((first, rest.copy(alloc)?))
@@ -188,38 +191,42 @@ fn cross_rest(
     push_all(fresh, number, rests)
 }
 
-/// Puts what a dot gains by the first child's new items, and keeps these.
+/// Puts what a dot or a prefix node gains by the first child's new items, and keeps these.
 fn dot_first(
     fresh: &Bag,
-    rests: &Found,
+    rests: &Rests,
     number: usize,
     firsts: &mut Found,
     out: &mut Bag,
 ) -> Result<(), NoMemory>
     ensures items { OnOk result (kepts out.new ≡ kepts out.old
-        ++ briefs (met_by_first (kepts fresh.now) (kepts rests.now))) }
+        ++ briefs (met_by_first (key_of (rests_view rests.now).key) (kepts fresh.now)
+        (kepts (rests_view rests.now).items))) }
     ensures keeps { OnOk result (kepts firsts.new ≡ kepts firsts.old ++ kepts fresh.now) }
     ensures more { AreMore number out.old out.new }
     ensures more_firsts { AreMore number firsts.old firsts.new }
 {
-    push_all_met_first(fresh, rests, number, out)?;
+    rests.push_all_met(fresh, number, out)?;
     find_all(fresh, number, firsts)
 }
 
-/// Puts what a dot gains by the second child's new items, and keeps these.
+/// Puts what a dot or a prefix node gains by the second child's new items, and keeps these.
 fn dot_rest(
     firsts: &Found,
     fresh: &Bag,
     number: usize,
-    rests: &mut Found,
+    rests: &mut Rests,
     out: &mut Bag,
 ) -> Result<(), NoMemory>
     ensures items { OnOk result (kepts out.new ≡ kepts out.old
-        ++ briefs (met_by_second (kepts firsts.now) (kepts fresh.now))) }
-    ensures keeps { OnOk result (kepts rests.new ≡ kepts rests.old ++ kepts fresh.now) }
+        ++ briefs (met_by_second (key_of (rests_view rests.old).key) (kepts firsts.now)
+        (kepts fresh.now))) }
+    ensures keeps { OnOk result (kepts (rests_view rests.new).items
+        ≡ kepts (rests_view rests.old).items ++ kepts fresh.now) }
     ensures more { AreMore number out.old out.new }
-    ensures more_rests { AreMore number rests.old rests.new }
+    ensures more_rests { AreMore number (rests_view rests.old).items (rests_view rests.new).items }
+    ensures key { (rests_view rests.new).key ≡ (rests_view rests.old).key }
 {
-    push_all_met_second(firsts, fresh, number, out)?;
-    find_all(fresh, number, rests)
+    push_all_met_second(firsts, fresh, rests.depth(), number, out)?;
+    rests.push_all(fresh, number)
 }

@@ -9,11 +9,11 @@ use Rattle.tv_lemmas.specs.Members.{Each}
 use Rattle.tv_value.specs.Nested.{Place}
 use Rattle.tv_value.specs.Values.{Name, holds_fault}
 use Rattle.tv_value.specs.Orders.{same_name}
-use Rattle.tv_value.specs.Strategies.{Strategy, port, cross, dot, Strategies, no_strategies, strategy}
+use Rattle.tv_value.specs.Strategies.{Strategy, port, cross, dot, prefix, Strategies, no_strategies, strategy}
 use Rattle.tv_strategy.specs.Splits.{same_place}
 use Rattle.tv_strategy.specs.Measures.{leaf_names}
 use Rattle.tv_matching.specs.Items.{Kind, ends, closes, passes, Item, item, if_so}
-use Rattle.tv_matching.specs.Matched.{bound, below, replaced, replaced_below, crossed_items, below_jobs, meet_kinds, meet, joined_items, same, matched, matched_cross, matched_dot, gained, gained_cross, gained_dot}
+use Rattle.tv_matching.specs.Matched.{bound, below, replaced, replaced_below, crossed_items, below_jobs, meet_kinds, meet, met_by, joined_items, same, reaches, meet_below, prefixed_items, matched, matched_cross, matched_dot, gained, gained_cross, gained_dot}
 use Rattle.tv_strategy.specs.Origins.{Traced}
 use Rattle.tv_strategy.proofs.Each.{each-all, each-weaken}
 use Rattle.tv_matching.specs.Members.{at_place}
@@ -65,11 +65,44 @@ module _ {X F G : Type 0} (test : X → Bool) (g : F → G) where
   meet-bare x y =
       ap (λ k. if_so (same_place x.place y.place) (item y.place k)) (met-bare x.kind y.kind) ∙ sym (map-if (bare test g) (same_place x.place y.place) (item y.place (meet_kinds x.kind y.kind)))
 
+  -- a join that is the same without bindings
+  module _ (m : Item X F → Item X F → List (Item X F)) (n : Item (Unit {0}) G → Item (Unit {0}) G → List (Item (Unit {0}) G))
+      (same_bare : (x y : Item X F) → n (bare test g x) (bare test g y) ≡ map (bare test g) (m x y)) where
+    met_by-bare : (xs ys : List (Item X F)) → met_by n (map (bare test g) xs) (map (bare test g) ys) ≡ map (bare test g) (met_by m xs ys)
+    met_by-bare xs ys =
+        flat_map-map (λ x. flat_map (n x) (map (bare test g) ys)) (bare test g) xs
+        ∙ flat-same (λ x. flat_map (n (bare test g x)) (map (bare test g) ys)) (λ x. map (bare test g) (flat_map (m x) ys)) (λ x. flat_map-map (n (bare test g x)) (bare test g) ys ∙ flat-same (λ y. n (bare test g x) (bare test g y)) (λ y. map (bare test g) (m x y)) (same_bare x) ys ∙ sym (map-flat (bare test g) (m x) ys)) xs
+        ∙ sym (map-flat (bare test g) (λ x. flat_map (m x) ys) xs)
+
+    met-parts : (xs dx ys dy : List (Item X F)) → met_by n (map (bare test g) dx) (map (bare test g) ys) ++ (met_by n (map (bare test g) xs) (map (bare test g) dy) ++ met_by n (map (bare test g) dx) (map (bare test g) dy)) ≡ map (bare test g) (met_by m dx ys ++ (met_by m xs dy ++ met_by m dx dy))
+    met-parts xs dx ys dy =
+        ap (λ l. l ++ (met_by n (map (bare test g) xs) (map (bare test g) dy) ++ met_by n (map (bare test g) dx) (map (bare test g) dy))) (met_by-bare dx ys)
+        ∙ ap (λ l. map (bare test g) (met_by m dx ys) ++ (l ++ met_by n (map (bare test g) dx) (map (bare test g) dy))) (met_by-bare xs dy)
+        ∙ ap (λ l. map (bare test g) (met_by m dx ys) ++ (map (bare test g) (met_by m xs dy) ++ l)) (met_by-bare dx dy)
+        ∙ sym (map-append (bare test g) (met_by m dx ys) (met_by m xs dy ++ met_by m dx dy) ∙ ap (λ l. map (bare test g) (met_by m dx ys) ++ l) (map-append (bare test g) (met_by m xs dy) (met_by m dx dy)))
+
+    -- the four lists of a node, each without bindings
+    met-four : (xs dx ys dy : List (Item X F)) (us du vs dv : List (Item (Unit {0}) G)) → us ≡ map (bare test g) xs → du ≡ map (bare test g) dx → vs ≡ map (bare test g) ys → dv ≡ map (bare test g) dy → met_by n du vs ++ (met_by n us dv ++ met_by n du dv) ≡ map (bare test g) (met_by m dx ys ++ (met_by m xs dy ++ met_by m dx dy))
+    met-four xs dx ys dy us du vs dv a b c d =
+        ap (λ l. met_by n du vs ++ (met_by n l dv ++ met_by n du dv)) a
+        ∙ ap (λ l. met_by n l vs ++ (met_by n (map (bare test g) xs) dv ++ met_by n l dv)) b
+        ∙ ap (λ l. met_by n (map (bare test g) dx) l ++ (met_by n (map (bare test g) xs) dv ++ met_by n (map (bare test g) dx) dv)) c
+        ∙ ap (λ l. met_by n (map (bare test g) dx) (map (bare test g) ys) ++ (met_by n (map (bare test g) xs) l ++ met_by n (map (bare test g) dx) l)) d
+        ∙ met-parts xs dx ys dy
+
+  reaches-bare : (k : Kind X F) (q r : Place) → reaches (bare_kind test g k) q r ≡ reaches k q r
+  reaches-bare (ends b) q r = refl
+  reaches-bare (closes n) q r = refl
+  reaches-bare (passes e) q r = refl
+
+  meet_below-bare : (x y : Item X F) → meet_below (bare test g x) (bare test g y) ≡ map (bare test g) (meet_below x y)
+  meet_below-bare x y =
+      ap (λ b. if_so b (item y.place (meet_kinds (bare_kind test g x.kind) (bare_kind test g y.kind)))) (reaches-bare x.kind x.place y.place)
+      ∙ ap (λ k. if_so (reaches x.kind x.place y.place) (item y.place k)) (met-bare x.kind y.kind)
+      ∙ sym (map-if (bare test g) (reaches x.kind x.place y.place) (item y.place (meet_kinds x.kind y.kind)))
+
   joined-bare : (xs ys : List (Item X F)) → joined_items same (map (bare test g) xs) (map (bare test g) ys) ≡ map (bare test g) (joined_items same xs ys)
-  joined-bare xs ys =
-      flat_map-map (λ x. flat_map (meet same x) (map (bare test g) ys)) (bare test g) xs
-      ∙ flat-same (λ x. flat_map (meet same (bare test g x)) (map (bare test g) ys)) (λ x. map (bare test g) (flat_map (meet same x) ys)) (λ x. flat_map-map (meet same (bare test g x)) (bare test g) ys ∙ flat-same (λ y. meet same (bare test g x) (bare test g y)) (λ y. map (bare test g) (meet same x y)) (meet-bare x) ys ∙ sym (map-flat (bare test g) (meet same x) ys)) xs
-      ∙ sym (map-flat (bare test g) (λ x. flat_map (meet same x) ys) xs)
+  joined-bare xs ys = met_by-bare (meet same) (meet same) meet-bare xs ys
 
   module _ (told : Name → List (Item X F)) where
     mutual
@@ -77,6 +110,10 @@ module _ {X F G : Type 0} (test : X → Bool) (g : F → G) where
       matched-bare (port p) = refl
       matched-bare (cross cs) = cross-bare cs
       matched-bare (dot cs) = dot-bare cs
+      matched-bare (prefix l r) =
+          ap (λ xs. prefixed_items xs (matched (λ p. map (bare test g) (told p)) r)) (matched-bare l)
+          ∙ ap (λ ys. prefixed_items (map (bare test g) (matched told l)) ys) (matched-bare r)
+          ∙ met_by-bare meet_below meet_below meet_below-bare (matched told l) (matched told r)
 
       cross-bare : (cs : Strategies) → matched_cross (λ p. map (bare test g) (told p)) cs ≡ map (bare test g) (matched_cross told cs)
       cross-bare no_strategies = refl
@@ -110,13 +147,6 @@ module _ {X F G : Type 0} (test : X → Bool) (g : F → G) where
         ∙ ap (λ l. map (bare test g) (crossed_items dx ys) ++ (map (bare test g) (below_jobs xs dy) ++ l)) (below_jobs-bare dx dy)
         ∙ sym (three (crossed_items dx ys) (below_jobs xs dy) (below_jobs dx dy))
 
-    dot-parts : (xs dx ys dy : List (Item X F)) → joined_items same (map (bare test g) dx) (map (bare test g) ys) ++ (joined_items same (map (bare test g) xs) (map (bare test g) dy) ++ joined_items same (map (bare test g) dx) (map (bare test g) dy)) ≡ map (bare test g) (joined_items same dx ys ++ (joined_items same xs dy ++ joined_items same dx dy))
-    dot-parts xs dx ys dy =
-        ap (λ l. l ++ (joined_items same (map (bare test g) xs) (map (bare test g) dy) ++ joined_items same (map (bare test g) dx) (map (bare test g) dy))) (joined-bare dx ys)
-        ∙ ap (λ l. map (bare test g) (joined_items same dx ys) ++ (l ++ joined_items same (map (bare test g) dx) (map (bare test g) dy))) (joined-bare xs dy)
-        ∙ ap (λ l. map (bare test g) (joined_items same dx ys) ++ (map (bare test g) (joined_items same xs dy) ++ l)) (joined-bare dx dy)
-        ∙ sym (three (joined_items same dx ys) (joined_items same xs dy) (joined_items same dx dy))
-
     -- the four lists of a node, each without bindings
     cross-four : (xs dx ys dy : List (Item X F)) (us du vs dv : List (Item (Unit {0}) G)) → us ≡ map (bare test g) xs → du ≡ map (bare test g) dx → vs ≡ map (bare test g) ys → dv ≡ map (bare test g) dy → crossed_items du vs ++ (below_jobs us dv ++ below_jobs du dv) ≡ map (bare test g) (crossed_items dx ys ++ (below_jobs xs dy ++ below_jobs dx dy))
     cross-four xs dx ys dy us du vs dv a b c d =
@@ -126,19 +156,13 @@ module _ {X F G : Type 0} (test : X → Bool) (g : F → G) where
         ∙ ap (λ l. crossed_items (map (bare test g) dx) (map (bare test g) ys) ++ (below_jobs (map (bare test g) xs) l ++ below_jobs (map (bare test g) dx) l)) d
         ∙ cross-parts xs dx ys dy
 
-    dot-four : (xs dx ys dy : List (Item X F)) (us du vs dv : List (Item (Unit {0}) G)) → us ≡ map (bare test g) xs → du ≡ map (bare test g) dx → vs ≡ map (bare test g) ys → dv ≡ map (bare test g) dy → joined_items same du vs ++ (joined_items same us dv ++ joined_items same du dv) ≡ map (bare test g) (joined_items same dx ys ++ (joined_items same xs dy ++ joined_items same dx dy))
-    dot-four xs dx ys dy us du vs dv a b c d =
-        ap (λ l. joined_items same du vs ++ (joined_items same l dv ++ joined_items same du dv)) a
-        ∙ ap (λ l. joined_items same l vs ++ (joined_items same (map (bare test g) xs) dv ++ joined_items same l dv)) b
-        ∙ ap (λ l. joined_items same (map (bare test g) dx) l ++ (joined_items same (map (bare test g) xs) dv ++ joined_items same (map (bare test g) dx) dv)) c
-        ∙ ap (λ l. joined_items same (map (bare test g) dx) (map (bare test g) ys) ++ (joined_items same (map (bare test g) xs) l ++ joined_items same (map (bare test g) dx) l)) d
-        ∙ dot-parts xs dx ys dy
-
     mutual
       pub gained-bare : (s : Strategy) → gained bare_old bare_new s ≡ map (bare test g) (gained old new s)
       gained-bare (port p) = refl
       gained-bare (cross cs) = cross-gained cs
       gained-bare (dot cs) = dot-gained cs
+      gained-bare (prefix l r) =
+          met-four meet_below meet_below meet_below-bare (matched old l) (gained old new l) (matched old r) (gained old new r) (matched bare_old l) (gained bare_old bare_new l) (matched bare_old r) (gained bare_old bare_new r) (matched-bare old l) (gained-bare l) (matched-bare old r) (gained-bare r)
 
       cross-gained : (cs : Strategies) → gained_cross bare_old bare_new cs ≡ map (bare test g) (gained_cross old new cs)
       cross-gained no_strategies = refl
@@ -149,7 +173,7 @@ module _ {X F G : Type 0} (test : X → Bool) (g : F → G) where
       dot-gained no_strategies = refl
       dot-gained (strategy c no_strategies) = gained-bare c
       dot-gained (strategy c (strategy d ds)) =
-          dot-four (matched old c) (gained old new c) (matched_dot old (strategy d ds)) (gained_dot old new (strategy d ds)) (matched bare_old c) (gained bare_old bare_new c) (matched_dot bare_old (strategy d ds)) (gained_dot bare_old bare_new (strategy d ds)) (matched-bare old c) (gained-bare c) (dot-bare old (strategy d ds)) (dot-gained (strategy d ds))
+          met-four (meet same) (meet same) meet-bare (matched old c) (gained old new c) (matched_dot old (strategy d ds)) (gained_dot old new (strategy d ds)) (matched bare_old c) (gained bare_old bare_new c) (matched_dot bare_old (strategy d ds)) (gained_dot bare_old bare_new (strategy d ds)) (matched-bare old c) (gained-bare c) (dot-bare old (strategy d ds)) (dot-gained (strategy d ds))
 
 -- ---- what was told, with and without faults in bound values
 

@@ -9,7 +9,7 @@ use Rattle.tv_lemmas.specs.Members.{Each}
 use Rattle.tv_lemmas.proofs.Numbers.{less-unequal}
 use Rattle.tv_value.specs.Nested.{leaf, list, Trees, no_trees, tree, Place, count, note, map_trees}
 use Rattle.tv_value.specs.Values.{Name, ErrorDoc}
-use Rattle.tv_value.specs.Strategies.{Strategy, port, cross, dot, Strategies, no_strategies, strategy}
+use Rattle.tv_value.specs.Strategies.{Strategy, port, cross, dot, prefix, Strategies, no_strategies, strategy}
 use Rattle.tv_strategy.specs.Origins.{Mark, Origin}
 use Rattle.tv_strategy.specs.Iterations.{Binding, End, job, passed, Iteration, Iterations, end_with, added, crossed, each_crossed, paired, each_paired, iteration, cross_of, dot_of}
 use Rattle.tv_strategy.specs.Measures.{strategy_depth, DotsAgree, AllDotsAgree, HaveOneDepth}
@@ -20,7 +20,8 @@ use Rattle.tv_strategy.proofs.Sources.{each-append}
 use Rattle.tv_strategy.proofs.Each.{each-all, each-weaken}
 use Rattle.tv_strategy.proofs.Lists.{count-each_paired}
 use Rattle.tv_matching.specs.Items.{Kind, ends, closes, passes, Item, item, Bound, Stopped, end_kind, within, here, if_so, all_known, known_items, known_from}
-use Rattle.tv_matching.specs.Matched.{bound, below, replaced, crossed_items, meet_kinds, meet, joined_items, same, matched, matched_cross, matched_dot}
+use Rattle.tv_matching.specs.Matched.{bound, below, replaced, crossed_items, meet_kinds, meet, joined_items, same, prefixed_items, matched, matched_cross, matched_dot}
+use Rattle.tv_matching.proofs.Begun.{prefixed-joined, known-leveled}
 use Rattle.tv_matching.proofs.Lists.{flat-append, flat-none, flat-same, map-flat, flat-single, map-if, flat-nothing, flat-each, each-map, each-if}
 
 abbrev pub WalkItem : Type 0
@@ -336,6 +337,11 @@ module _ (known : Origin → Bool) (ports : Name → Iteration) (mismatch : Name
     iteration-known (port p) a = refl
     iteration-known (cross cs) a = cross-known cs a
     iteration-known (dot cs) a = dot-known cs a.0 a.1
+    iteration-known (prefix l r) a =
+        paired-known known (iteration ports l) (iteration ports r) (strategy_depth mismatch l) (strategy_depth mismatch r) a.2 (iteration-levels ports mismatch walks l a.0) (iteration-levels ports mismatch walks r a.1)
+        ∙ prefixed-joined (strategy_depth mismatch l) (known_items known (iteration ports l)) (known_items known (iteration ports r)) (known-leveled known (iteration ports l) (strategy_depth mismatch l) (iteration-levels ports mismatch walks l a.0))
+        ∙ ap (λ xs. prefixed_items xs (known_items known (iteration ports r))) (iteration-known l a.0)
+        ∙ ap (λ ys. prefixed_items (matched (λ p. known_items known (ports p)) l) ys) (iteration-known r a.1)
 
     cross-known : (cs : Strategies) → AllDotsAgree mismatch cs → known_items known (cross_of ports cs) ≡ matched_cross (λ p. known_items known (ports p)) cs
     cross-known no_strategies a = refl

@@ -108,10 +108,10 @@ tellings-in_any_order s ts others h = after-permutes s (tellings ts) (tellings o
 -- ---- what a matcher keeps
 
 pub store-is_matched : StoreIsMatched
-store-is_matched told named s none h = items-for told named none 0 s h
+store-is_matched told named mismatch leveled s a none h = items-for told named none mismatch leveled 0 s a h
 
 pub store-starts : StoreStarts
-store-starts s = empty-is (store_for 0 s) (for-empty (Unit {0}) ℕ 0 s)
+store-starts mismatch s = empty-is (store_for mismatch 0 s) (for-empty (Unit {0}) ℕ mismatch 0 s)
 
 pub store-grows : StoreGrows
 store-grows told new st h = (grown-is told new st h, items-gain told new st h)

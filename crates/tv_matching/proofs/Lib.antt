@@ -1,4 +1,5 @@
 pub mod Lists
+pub mod Begun
 pub mod FromScratch
 pub mod Permutes
 pub mod Gains
@@ -11,7 +12,6 @@ pub mod Heard
 pub mod Computed
 pub mod Lookups
 pub mod LawLemmas
-pub mod Prefixed
 pub mod Stores
 pub mod Matchers
 pub mod Bared

@@ -8,7 +8,7 @@ use Rattle.tv_lemmas.specs.Members.{Each}
 use Rattle.tv_value.specs.Nested.{leaf, list, Place, at}
 use Rattle.tv_value.specs.Values.{Name, text, fault, Value}
 use Rattle.tv_value.specs.Orders.{same_name}
-use Rattle.tv_value.specs.Strategies.{Strategy, port, cross, dot, Strategies, no_strategies, strategy}
+use Rattle.tv_value.specs.Strategies.{Strategy, port, cross, dot, prefix, Strategies, no_strategies, strategy}
 use Rattle.tv_strategy.specs.Origins.{Traced, input_value}
 use Rattle.tv_strategy.specs.Iterations.{iteration, walks}
 use Rattle.tv_strategy.specs.Conditions.{number_of}
@@ -18,7 +18,7 @@ use Rattle.tv_strategy.proofs.Sources.{each-append}
 use Rattle.tv_strategy.proofs.Each.{each-weaken}
 use Rattle.tv_matching.specs.Items.{Kind, ends, closes, passes, Item, item, if_so, known_items}
 use Rattle.tv_matching.specs.Members.{at_place}
-use Rattle.tv_matching.specs.Matched.{bound, below, replaced, crossed_items, meet_kinds, meet, joined_items, same, matched, matched_cross, matched_dot}
+use Rattle.tv_matching.specs.Matched.{bound, below, replaced, crossed_items, meet_kinds, meet, joined_items, same, reaches, meet_below, prefixed_items, matched, matched_cross, matched_dot}
 use Rattle.tv_matching.specs.Tellings.{Telling}
 use Rattle.tv_matching.specs.Told.{Spot, Told, arrival, faulty, close, told_leaf, told_place, told_kind, telling, tellings, told_to, matched_after, added_after, IsFit, item_there, stop_there, stop_of, labelled, node_told, IsTrueOf, IsFaultThere}
 use Rattle.tv_matching.specs.Matchers.{Outcome, fault_at, leaf_number, kind_out, out, all_out, Matching, AreMatching, CanTellAll, IsTold, mark_number, node_out, OutIsKnown, StartIsMatching, TellingIsMatching, GivesOnlyRest}
@@ -64,12 +64,17 @@ module _ {X F : Type 0} (Q : F → Type 0) where
   joined-have xs ys h k =
       each-flat (λ y. PassesHave y.kind) (λ x. flat_map (meet same x) ys) xs (each-weaken (λ x. PassesHave x.kind) (λ x. AllPass (flat_map (meet same x) ys)) (λ x j. each-flat (λ y. PassesHave y.kind) (meet same x) ys (each-weaken (λ y. PassesHave y.kind) (λ y. AllPass (meet same x y)) (λ y l. each-if (λ z. PassesHave z.kind) (same_place x.place y.place) (item y.place (meet_kinds x.kind y.kind)) (met-has x.kind y.kind j l)) ys k)) xs h)
 
+  prefixed-have : (xs ys : List (Item X F)) → AllPass xs → AllPass ys → AllPass (prefixed_items xs ys)
+  prefixed-have xs ys h k =
+      each-flat (λ y. PassesHave y.kind) (λ x. flat_map (meet_below x) ys) xs (each-weaken (λ x. PassesHave x.kind) (λ x. AllPass (flat_map (meet_below x) ys)) (λ x j. each-flat (λ y. PassesHave y.kind) (meet_below x) ys (each-weaken (λ y. PassesHave y.kind) (λ y. AllPass (meet_below x y)) (λ y l. each-if (λ z. PassesHave z.kind) (reaches x.kind x.place y.place) (item y.place (meet_kinds x.kind y.kind)) (met-has x.kind y.kind j l)) ys k)) xs h)
+
   module _ (told : Name → List (Item X F)) (have : (p : Name) → AllPass (told p)) where
     mutual
       pub matched-have : (s : Strategy) → AllPass (matched told s)
       matched-have (port p) = have p
       matched-have (cross cs) = cross-have cs
       matched-have (dot cs) = dot-have cs
+      matched-have (prefix l r) = prefixed-have (matched told l) (matched told r) (matched-have l) (matched-have r)
 
       cross-have : (cs : Strategies) → AllPass (matched_cross told cs)
       cross-have no_strategies = (tt, tt)

@@ -10,7 +10,7 @@ use Rattle.tv_lemmas.proofs.Lists.{flat-flat}
 use Rattle.tv_lemmas.proofs.Numbers.{less-unequal}
 use Rattle.tv_value.specs.Nested.{leaf, list, no_trees, tree, Place, count}
 use Rattle.tv_value.specs.Values.{Name}
-use Rattle.tv_value.specs.Strategies.{Strategy, port, cross, dot, Strategies, no_strategies, strategy}
+use Rattle.tv_value.specs.Strategies.{Strategy, port, cross, dot, prefix, Strategies, no_strategies, strategy}
 use Rattle.tv_strategy.specs.Origins.{Origin}
 use Rattle.tv_strategy.specs.Iterations.{Iteration, Iterations}
 use Rattle.tv_strategy.specs.Measures.{strategy_depth, sum_of_depths, first_depth, DotsAgree, AllDotsAgree, HaveOneDepth}
@@ -21,7 +21,9 @@ use Rattle.tv_strategy.proofs.Each.{each-all, each-weaken}
 use Rattle.tv_matching.specs.Items.{Kind, ends, closes, passes, Item, item, Bound, Stopped, end_kind, within, here, if_so, all_known, known_items, known_from}
 use Rattle.tv_matching.specs.Members.{at_place, Once}
 use Rattle.tv_matching.specs.Levels.{KindAt, AreLeveled}
-use Rattle.tv_matching.specs.Matched.{bound, below, replaced, crossed_items, meet_kinds, meet, joined_items, same, one_end, matched, matched_cross, matched_dot}
+use Rattle.tv_matching.specs.Matched.{bound, below, replaced, crossed_items, meet_kinds, meet, joined_items, same, prefixed_items, one_end, matched, matched_cross, matched_dot}
+pub use Rattle.tv_matching.proofs.Begun.{each-flat}
+use Rattle.tv_matching.proofs.Begun.{bound-level, prefixed-joined, prefixed-leveled}
 use Rattle.tv_matching.proofs.Lists.{flat-append, flat-same, map-flat, flat-nothing, map-if, each-map}
 use Rattle.tv_matching.proofs.Permutes.{flat-permutes}
 use Rattle.tv_matching.proofs.FromScratch.{StartsFrom, from-starts}
@@ -156,10 +158,6 @@ are-differ q r h e = absurd (clash (same_place q r) h (subst (λ p. same_place q
 lower : (m c d : ℕ) → m < c → m < c + d
 lower m c d h = omega arith
 
-pub each-flat : {A B : Type 0} (P : B → Type 0) (f : A → List B) (xs : List A) → Each (λ x. Each P (f x)) xs → Each P (flat_map f xs)
-each-flat P f [] h = tt
-each-flat P f (x ∷ xs) h = each-append P (f x) (flat_map f xs) h.0 (each-flat P f xs h.1)
-
 none-at : (X F : Type 0) (q : Place) → length (at_place {X = X} {F = F} q one_end) ≤ 1
 none-at X F q = by (same_place q [])
   where
@@ -270,11 +268,6 @@ module _ {X F : Type 0} where
   pub crossed-leveled : (c d : ℕ) (xs ys : List (Item X F)) → AreLeveled c xs → AreLeveled d ys → AreLeveled (c + d) (crossed_items xs ys)
   crossed-leveled c d xs ys h k = each-flat (λ y. KindAt (c + d) y.place y.kind) (λ x. replaced ys x.place x.kind) xs (each-weaken (λ x. KindAt c x.place x.kind) (λ x. AreLeveled (c + d) (replaced ys x.place x.kind)) (λ x l. replaced-leveled c d ys x.place x.kind k l) xs h)
 
-  pub bound-level : (d : ℕ) (q : Place) (b : List X) (k : Kind X F) → KindAt d q k → KindAt d q (bound b k)
-  bound-level d q b (ends c) h = h
-  bound-level d q b (closes n) h = h
-  bound-level d q b (passes f) h = h
-
   met-level : (d : ℕ) (q : Place) (k l : Kind X F) → KindAt d q k → KindAt d q l → KindAt d q (meet_kinds k l)
   met-level d q (ends b) l h m = bound-level d q b l m
   met-level d q (passes f) l h m = h
@@ -298,6 +291,7 @@ module _ {X F : Type 0} where
       matched-leveled (port p) a = leveled p
       matched-leveled (cross cs) a = cross-leveled cs a
       matched-leveled (dot cs) a = dot-leveled cs a.0 a.1
+      matched-leveled (prefix l r) a = prefixed-leveled (strategy_depth mismatch l) (strategy_depth mismatch r) (matched told l) (matched told r) a.2 (matched-leveled l a.0) (matched-leveled r a.1)
 
       cross-leveled : (cs : Strategies) → AllDotsAgree mismatch cs → AreLeveled (sum_of_depths mismatch cs) (matched_cross told cs)
       cross-leveled no_strategies a = (refl, tt)
@@ -315,6 +309,9 @@ module _ {X F : Type 0} where
         matched-once (port p) a = once p
         matched-once (cross cs) a = cross-once cs a
         matched-once (dot cs) a = dot-once cs a.0
+        matched-once (prefix l r) a =
+            subst Once (prefixed-joined (strategy_depth mismatch l) (matched told l) (matched told r) (matched-leveled l a.0))
+            (joined-once (take (strategy_depth mismatch l)) (matched told l) (matched told r) (matched-once l a.0) (matched-once r a.1))
 
         cross-once : (cs : Strategies) → AllDotsAgree mismatch cs → Once (matched_cross told cs)
         cross-once no_strategies a = none-at X F

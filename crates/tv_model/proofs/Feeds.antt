@@ -35,7 +35,7 @@ lacks-both (k ∷ ns) ms n h =
 
 -- a step with this feed alone
 abbrev fed_by : Feed → Step
-fed_by f = record { inputs = ([], record { depth = 0; from = f }) ∷ []; outputs = []; strategy = None; activities = []; retries = 0; jobs = 0; after = [] }
+fed_by f = record { inputs = ([], record { depth = 0; from = f }) ∷ []; outputs = []; strategy = None; activities = []; retries = 0; jobs = 0; after = []; repeat = None }
 
 module _ (given : List (Name × ℕ)) where
   feed-stays : (so_far : List StepDepths) (x : StepDepths) (f : Feed) → is_among (feed_steps f) x.step ≡ false → feed_depth given (x ∷ so_far) f ≡ feed_depth given so_far f

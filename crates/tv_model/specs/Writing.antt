@@ -68,6 +68,7 @@ asks s ports =
       retries = 0;
       jobs = 1;
       after = [];
+      repeat = None;
     }
 
 -- the ports a and b in pairs

@@ -6,7 +6,7 @@ use Rattle.std.proofs.lemmas.Bool.{leb-true, and_parts}
 use Rattle.tv_value.specs.Values.{Name}
 use Rattle.tv_value.specs.Orders.{same_name, named}
 use Rattle.tv_flow.specs.Flows.{Step, Flow, Document}
-use Rattle.tv_flow.specs.Formed.{is_ascending, is_depth, are_named, is_step_input, is_step, is_feed, is_flow, is_formed}
+use Rattle.tv_flow.specs.Formed.{is_ascending, is_activity, is_depth, are_listed, are_named, are_names, is_step_input, is_step, is_feed, is_flow, is_formed}
 use Rattle.tv_flow.specs.Forms.{is_name}
 use Rattle.tv_flow.specs.Views.{each}
 use Rattle.tv_naming.proofs.ByPosition.{names_of}
@@ -73,7 +73,19 @@ module _ (f : Flow) (h : is_flow f ≡ true) where
 
 module _ (s : Step) (h : is_step s ≡ true) where
   step-ports : (are_named is_step_input 0 16 s.inputs ≡ true) × (are_named is_depth 0 16 s.outputs ≡ true)
-  step-ports = and_parts _ _ (and_parts _ _ (and_parts _ _ (and_parts _ _ (and_parts _ _ (and_parts _ _ h).0).0).0).0).0
+  step-ports = and_parts _ _ (and_parts _ _ (and_parts _ _ (and_parts _ _ (and_parts _ _ (and_parts _ _ (and_parts _ _ h).0).0).0).0).0).0
+
+  pub step-activities : length s.activities ≤ 8
+  step-activities =
+      let l : are_listed is_activity 1 8 s.activities ≡ true = (and_parts _ _ (and_parts _ _ (and_parts _ _ (and_parts _ _ (and_parts _ _ h).0).0).0).0).1 in
+      let e : nat_le (length s.activities) 8 ≡ true = (and_parts _ _ (and_parts _ _ l).0).1 in
+      leb-true _ _ e
+
+  pub step-after : length s.after ≤ 16
+  step-after =
+      let l : are_names s.after ≡ true = (and_parts _ _ (and_parts _ _ h).0).1 in
+      let e : nat_le (length s.after) 16 ≡ true = (and_parts _ _ (and_parts _ _ l).0).0 in
+      leb-true _ _ e
 
   pub step-inputs : are_named is_step_input 0 16 s.inputs ≡ true
   step-inputs = step-ports.0

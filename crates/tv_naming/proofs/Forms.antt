@@ -9,7 +9,7 @@ use Rattle.std.proofs.lemmas.Simd.{map-map}
 use Rattle.tv_value.specs.Values.{Name}
 use Rattle.tv_flow.specs.Flows.{Flow, Document}
 use Rattle.tv_flow.specs.Forms.{is_name}
-use Rattle.tv_flow.specs.Formed.{is_ascending, is_between, are_entries, are_named, is_depth, is_value, is_step, is_feed, is_flow, is_formed}
+use Rattle.tv_flow.specs.Formed.{is_ascending, is_between, are_of_format, are_entries, are_named, is_depth, is_value, is_step, is_feed, is_flow, is_formed}
 use Rattle.tv_flow.specs.declared.document.Flow as code
 use Rattle.tv_flow.specs.Views.{each, flow_view}
 use Rattle.tv_naming.proofs.Lists.{list_all-at}
@@ -35,8 +35,8 @@ named-rightly test least most xs h =
 
 pub flows-named : (d : Document) → is_formed d ≡ true → AreNamed is_flow 256 d.flows
 flows-named d h =
-    let p = and_parts (is_between 1 1 d.format && is_name d.main && are_named is_flow 1 256 d.flows) (are_entries is_value d.inputs) h in
-    named-rightly is_flow 1 256 d.flows (and_parts (is_between 1 1 d.format && is_name d.main) (are_named is_flow 1 256 d.flows) p.0).1
+    let p = and_parts (are_of_format d.format d.flows && is_name d.main && are_named is_flow 1 256 d.flows) (are_entries is_value d.inputs) h in
+    named-rightly is_flow 1 256 d.flows (and_parts (are_of_format d.format d.flows && is_name d.main) (are_named is_flow 1 256 d.flows) p.0).1
 
 pub steps-named : (f : Flow) → is_flow f ≡ true → AreNamed is_step 1000 f.steps
 steps-named f h =

@@ -1,6 +1,6 @@
 -- Lists made piece by piece.
-use Rattle.std.specs.Prelude.{◌≡◌, ℕ, zero, suc, ◌+◌, ◌<◌, ◌≤◌, List, [], ◌∷◌, ◌++◌, length, map, take, flat_map, filter_map, filter, find, Option, Some, option_map, Bool, true, false, ◌&&◌, refl}
-use Rattle.std.specs.List.{cons_option, list_all}
+use Rattle.std.specs.Prelude.{◌≡◌, ℕ, zero, suc, ◌+◌, ◌<◌, ◌≤◌, List, [], ◌∷◌, ◌++◌, length, map, take, flat_map, filter_map, filter, find, Option, Some, option_map, Bool, true, false, ◌&&◌, ◌||◌, refl}
+use Rattle.std.specs.List.{cons_option, list_all, list_any}
 use Rattle.std.proofs.Common.{get_or, ap, sym, subst, ◌∙◌, append_assoc, arith, cond}
 use Rattle.std.proofs.lemmas.List.{take_more, take_all, append-nil, map-append}
 use Rattle.std.proofs.lemmas.List.Elements.{filter_map-append}
@@ -16,6 +16,10 @@ module _ {X Y : Type 0} where
   pub filter_map-pieces : (h : X → Option Y) (xs : List X) → filter_map h xs ≡ flat_map (λ x. filter_map h (x ∷ [])) xs
   filter_map-pieces h [] = refl
   filter_map-pieces h (x ∷ xs) = filter_map-append h (x ∷ []) xs ∙ ap (λ ys. filter_map h (x ∷ []) ++ ys) (filter_map-pieces h xs)
+
+pub list_any-map : {X Y : Type 0} (p : Y → Bool) (v : X → Y) (xs : List X) → list_any (λ x. p (v x)) xs ≡ list_any p (map v xs)
+list_any-map p v [] = refl
+list_any-map p v (x ∷ xs) = ap (λ b. p (v x) || b) (list_any-map p v xs)
 
 pub take-step : {X : Type 0} (xs : List X) (i : ℕ) (x : X) → i < length xs → x ≡ get_or xs i x → take (i + 1) xs ≡ take i xs ++ x ∷ []
 take-step xs i x lt is = take_more xs i x lt ∙ ap (λ y. take i xs ++ y ∷ []) (sym is)

@@ -8,4 +8,5 @@ at_view (at.Step f s) = told.at_step f.now s.now
 at_view (at.Input f s p) = told.at_input f.now s.now p.now
 at_view (at.Output f s p) = told.at_output f.now s.now p.now
 at_view (at.Activity f s k) = told.at_activity f.now s.now k
+at_view (at.Loop f s) = told.at_loop f.now s.now
 at_view (at.FlowOutput f p) = told.at_flow_output f.now p.now

@@ -20,6 +20,9 @@ kind_view kind.TooDeep = told.too_deep
 kind_view kind.InputMissing = told.input_missing
 kind_view kind.InputUnknown = told.input_unknown
 kind_view kind.InputDepth = told.input_depth
+kind_view kind.LoopNested = told.loop_nested
+kind_view kind.LoopDepths = told.loop_depths
+kind_view kind.PrefixDepths = told.prefix_depths
 
 abbrev pub spot_view : Spot → told.Where
 spot_view spot.Main = told.at_main
@@ -29,6 +32,7 @@ spot_view (spot.Input f s p) = told.at_input f s p
 spot_view (spot.Output f s p) = told.at_output f s p
 spot_view (spot.Activity f s k) = told.at_activity f s k
 spot_view (spot.After f s k) = told.at_after f s k
+spot_view (spot.Loop f s) = told.at_loop f s
 spot_view (spot.FlowOutput f p) = told.at_flow_output f p
 spot_view (spot.Given p) = told.at_given p
 

@@ -16,6 +16,9 @@ pub data Kind : Type 0 where
   input_missing : Kind
   input_unknown : Kind
   input_depth : Kind
+  loop_nested : Kind
+  loop_depths : Kind
+  prefix_depths : Kind
 
 -- a place in a document: positions count from 0
 pub data Where : Type 0 where
@@ -26,6 +29,7 @@ pub data Where : Type 0 where
   at_output : Name → Name → Name → Where
   at_activity : Name → Name → ℕ → Where
   at_after : Name → Name → ℕ → Where
+  at_loop : Name → Name → Where
   at_flow_output : Name → Name → Where
   at_given : Name → Where
 

@@ -1,14 +1,14 @@
 -- Names that name nothing: of flows, ports, steps and services; and strategies whose leaves aren't the step's ports.
 use Rattle.std.specs.Prelude.{ℕ, suc, List, [], ◌∷◌, ◌++◌, map, Bool, true, false, not, ◌&&◌, ◌==◌, is_some, flat_map, count_by, length}
-use Rattle.std.specs.List.{list_all}
+use Rattle.std.specs.List.{list_all, list_any}
 use Rattle.std.specs.Option.{option_map_or}
 use Rattle.tv_value.specs.Values.{Name}
 use Rattle.tv_value.specs.Orders.{same_name, named}
 use Rattle.tv_value.specs.Strategies.{Strategy}
-use Rattle.tv_value.specs.Activities.{Activity, service, nested}
+use Rattle.tv_value.specs.Activities.{Activity, Repeat, service, nested}
 use Rattle.tv_flow.specs.Flows.{Link, input, output, Feed, link, merge, constant, StepInput, Step, Flow, Document}
 use Rattle.tv_strategy.specs.Measures.{leaf_names}
-use Rattle.tv_naming.specs.Faulty.{no_such_port, no_such_service, no_such_flow, strategy_ports, Where, at_main, at_step, at_input, at_activity, at_after, at_flow_output, CheckComplaint, plainly}
+use Rattle.tv_naming.specs.Faulty.{no_such_port, no_such_service, no_such_flow, strategy_ports, loop_nested, Where, at_main, at_step, at_input, at_activity, at_after, at_loop, at_flow_output, CheckComplaint, plainly}
 
 -- whether a list has a thing of this name
 abbrev pub has_name : {A : Type 0} → List (Name × A) → Name → Bool
@@ -60,6 +60,10 @@ after_complaints f flow n (k, a) = complain_if (not (has_name flow.steps a))
 abbrev pub output_complaints : Name → Flow → Name × Feed → List CheckComplaint
 output_complaints f flow o = link_complaints flow (at_flow_output f o.0) o.1
 
+abbrev pub is_nested : Activity → Bool
+is_nested (service n) = false
+is_nested (nested n) = true
+
 module _ (knows : Name → Bool) (d : Document) where
   abbrev pub activity_complaints : Name → Name → ℕ × Activity → List CheckComplaint
   activity_complaints f n (k, service a) = complain_if (not (knows a))
@@ -67,12 +71,22 @@ module _ (knows : Name → Bool) (d : Document) where
   activity_complaints f n (k, nested g) = complain_if (not (has_name d.flows g))
       (plainly no_such_flow (at_activity f n k))
 
-  -- a step: the links of its inputs, its strategy, its activities, and the steps that it runs after
+  -- a condition service that isn't known; a nested flow beside a loop
+  abbrev pub repeat_complaints : Where → List Activity → Repeat → List CheckComplaint
+  repeat_complaints w as' r = complain_if (not (knows r.service)) (plainly no_such_service w)
+      ++ complain_if (list_any is_nested as') (plainly loop_nested w)
+
+  abbrev pub loop_complaints : Name → Name × Step → List CheckComplaint
+  loop_complaints f (n, s) =
+      option_map_or (repeat_complaints (at_loop f n) s.activities) s.repeat []
+
+  -- a step: the links of its inputs, its strategy, its activities, its loop, and the steps that it runs after
   abbrev pub step_naming : Name → Flow → Name × Step → List CheckComplaint
   step_naming f flow (n, s) =
       flat_map (input_complaints f flow n) s.inputs
       ++ strategy_complaints f (n, s)
       ++ flat_map (activity_complaints f n) (numbered 0 s.activities)
+      ++ loop_complaints f (n, s)
       ++ flat_map (after_complaints f flow n) (numbered 0 s.after)
 
   abbrev pub flow_naming : Name × Flow → List CheckComplaint

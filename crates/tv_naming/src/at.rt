@@ -16,6 +16,7 @@ pub enum At<'a> {
     Input(&'a Name, &'a Name, &'a Name),
     Output(&'a Name, &'a Name, &'a Name),
     Activity(&'a Name, &'a Name, u32),
+    Loop(&'a Name, &'a Name),
     FlowOutput(&'a Name, &'a Name),
 }
 
@@ -43,6 +44,10 @@ impl At<'_> {
                 flow: flow.copy(alloc)?,
                 step: step.copy(alloc)?,
                 position,
+            }),
+            At::Loop(flow, step) => Ok(Spot::Loop {
+                flow: flow.copy(alloc)?,
+                step: step.copy(alloc)?,
             }),
             At::FlowOutput(flow, port) => Ok(Spot::FlowOutput {
                 flow: flow.copy(alloc)?,

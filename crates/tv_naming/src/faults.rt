@@ -31,6 +31,12 @@ pub enum CheckKind {
     InputUnknown = 12,
     /// A value that hasn't its input's depth.
     InputDepth = 13,
+    /// A nested flow in a step with a loop.
+    LoopNested = 14,
+    /// An input and an output of one name in a step with a loop, of different depths.
+    LoopDepths = 15,
+    /// A prefix node of which the right depth is less than the left.
+    PrefixDepths = 16,
 }
 
 /// A place in a document. Positions count from 0.
@@ -71,6 +77,11 @@ pub enum Spot {
         step: Name,
         position: u32,
     },
+    /// The loop of a step.
+    Loop {
+        flow: Name,
+        step: Name,
+    },
     /// An output of a flow.
     FlowOutput {
         flow: Name,
@@ -89,8 +100,8 @@ pub struct CheckFault {
     pub kind: CheckKind,
     /// Where it was met.
     pub spot: Spot,
-    /// The first of two numbers: the depths of dots and merges, a depth or nesting above its limit, the declared depth of
-    /// an input. 0 where the kind has none.
+    /// The first of two numbers: the first depth of a dot, prefix or merge, a loop's input's, a depth or nesting above its
+    /// limit, the declared depth of an input. 0 where the kind has none.
     pub first: u32,
     /// The second: the other depth, the limit, or the value's least depth. 0 where the kind has none.
     pub second: u32,

@@ -1,17 +1,20 @@
 //! The pass on names: of flows, ports, steps and services, and of a strategy's leaves.
-ghost use Rattle.std.specs.Prelude.{◌≡◌, ◌<◌, ◌^◌, IfOk, true, map, option_map, flat_map, length, not};
+ghost use Rattle.std.specs.Prelude.{◌≡◌, ◌<◌, ◌^◌, IfOk, true, map, option_map, flat_map, length, not, ◌++◌};
+ghost use Rattle.std.specs.List.{list_any};
 ghost use Rattle.tv_value.specs.Views.{strategy_view};
 ghost use Rattle.tv_flow.specs.DocumentViews.{document_view};
 ghost use Rattle.tv_flow.specs.Formed.{is_ascending, is_flow, is_step};
 ghost use Rattle.tv_flow.specs.Views.{each, flow_view, step_view, step_input_view, activity_view};
-ghost use Rattle.tv_naming.specs.Faulty.{strategy_ports, at_step, at_activity, plainly, first_of};
+ghost use Rattle.tv_naming.specs.Faulty.{strategy_ports, no_such_service, loop_nested, at_step, at_activity, at_loop, plainly, first_of};
 ghost use Rattle.tv_naming.specs.FaultViews.{fault_view, kind_view};
-ghost use Rattle.tv_naming.specs.Naming.{complain_if, fits_ports, has_name, numbered, input_complaints, strategy_complaints, activity_complaints, after_complaints, output_complaints, step_naming, flow_naming, naming_complaints};
+ghost use Rattle.tv_naming.specs.Naming.{complain_if, fits_ports, has_name, numbered, input_complaints, strategy_complaints, activity_complaints, is_nested, loop_complaints, after_complaints, output_complaints, step_naming, flow_naming, naming_complaints};
 
 use crate::faults::{CheckFault, CheckKind, Spot};
 use crate::links::{has_step, is_fed};
 use crate::ports::fits_ports;
-use crate::spots::{at_activity, at_after, at_flow_output, at_input, at_step, plain_fault};
+use crate::spots::{
+    at_activity, at_after, at_flow_output, at_input, at_loop, at_step, plain_fault,
+};
 use crate::things::thing_of;
 use std::alloc::Global;
 use tv_flow::{Activities, Activity, Document, Feed, Flow, FlowOutputs, Step, StepInputs};
@@ -93,7 +96,8 @@ fn steps_fault<V: Services>(
     Ok(None)
 }
 
-/// The first complaint about a step: the links of its inputs, its strategy, its activities, the steps that it runs after.
+/// The first complaint about a step: the links of its inputs, its strategy, its activities, its loop, the steps that it runs
+/// after.
 fn step_fault<V: Services>(
     alloc: Global,
     document: &Document,
@@ -121,6 +125,9 @@ fn step_fault<V: Services>(
         step_name,
         &step.activities,
     )? {
+        return Ok(Some(fault));
+    }
+    if let Some(fault) = loop_fault::<V>(alloc, document, name, step_name, step)? {
         return Ok(Some(fault));
     }
     after_fault(alloc, name, flow, step_name, &step.after)
@@ -260,6 +267,81 @@ fn unless(
     }
     let spot = at_activity(alloc, name, step_name, position)?;
     Ok(Some(plain_fault(kind, spot)))
+}
+
+/// The first complaint about a step's loop, if it has one.
+fn loop_fault<V: Services>(
+    alloc: Global,
+    document: &Document,
+    name: &Name,
+    step_name: &Name,
+    step: &Step,
+) -> Result<Option<CheckFault>, NoMemory>
+    ensures { IfOk result (λ f. option_map fault_view f
+        ≡ first_of (loop_complaints V.knows (document_view document.now) name.now
+        (step_name.now, step_view step.now))) }
+{
+    match &step.repeat {
+        Some(repeat) => {
+            let known = V::has(repeat.service.as_str());
+            let nested = nests(step.activities.as_slice());
+            repeat_fault(alloc, name, step_name, known, nested)
+        }
+        None => Ok(None),
+    }
+}
+
+/// Whether one of these activities is a nested flow.
+fn nests(activities: &[Activity]) -> bool
+    ensures { result ≡ list_any (λ a. is_nested (activity_view a)) activities.now }
+{
+    activities.iter().any(|activity| is_nested(activity))
+}
+
+fn is_nested(activity: &Activity) -> bool
+    ensures { result ≡ is_nested (activity_view activity.now) }
+{
+    match activity {
+        Activity::Service(_) => false,
+        Activity::Nested(_) => true,
+    }
+}
+
+/// The complaint about a loop whose service isn't known, or else of which the step has a nested flow.
+fn repeat_fault(
+    alloc: Global,
+    name: &Name,
+    step_name: &Name,
+    known: bool,
+    nested: bool,
+) -> Result<Option<CheckFault>, NoMemory>
+    ensures { IfOk result (λ f. option_map fault_view f
+        ≡ first_of
+        (complain_if (not known) (plainly no_such_service (at_loop name.now step_name.now))
+        ++ complain_if nested (plainly loop_nested (at_loop name.now step_name.now)))) }
+{
+    if !known {
+        let fault = fault_at_loop(alloc, CheckKind::NoSuchService, name, step_name)?;
+        return Ok(Some(fault));
+    }
+    if nested {
+        let fault = fault_at_loop(alloc, CheckKind::LoopNested, name, step_name)?;
+        return Ok(Some(fault));
+    }
+    Ok(None)
+}
+
+fn fault_at_loop(
+    alloc: Global,
+    kind: CheckKind,
+    name: &Name,
+    step_name: &Name,
+) -> Result<CheckFault, NoMemory>
+    ensures { IfOk result (λ f. fault_view f
+        ≡ plainly (kind_view kind) (at_loop name.now step_name.now)) }
+{
+    let spot = at_loop(alloc, name, step_name)?;
+    Ok(plain_fault(kind, spot))
 }
 
 fn after_fault(

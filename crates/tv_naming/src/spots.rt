@@ -1,6 +1,6 @@
 //! Faults without numbers, and the spots of the passes on names and inputs. Each spot has names of its own.
 ghost use Rattle.std.specs.Prelude.{◌≡◌, IfOk};
-ghost use Rattle.tv_naming.specs.Faulty.{plainly, at_step, at_input, at_activity, at_after, at_flow_output, at_given};
+ghost use Rattle.tv_naming.specs.Faulty.{plainly, at_step, at_input, at_activity, at_after, at_loop, at_flow_output, at_given};
 ghost use Rattle.tv_naming.specs.FaultViews.{kind_view, spot_view, fault_view};
 
 use crate::faults::{CheckFault, CheckKind, Spot};
@@ -73,6 +73,14 @@ pub(crate) fn at_after(
         step,
         position,
     })
+}
+
+pub(crate) fn at_loop(alloc: Global, flow: &Name, step: &Name) -> Result<Spot, NoMemory>
+    ensures { IfOk result (λ s. spot_view s ≡ at_loop flow.now step.now) }
+{
+    let flow = flow.copy(alloc)?;
+    let step = step.copy(alloc)?;
+    Ok(Spot::Loop { flow, step })
 }
 
 pub(crate) fn at_flow_output(alloc: Global, flow: &Name, port: &Name) -> Result<Spot, NoMemory>

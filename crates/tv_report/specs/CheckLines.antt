@@ -1,7 +1,7 @@
 -- The line of a fault of the check.
 use Rattle.std.specs.Prelude.{ℕ, [], ◌∷◌, ◌++◌, codes, decimal, Bool, true, false, if◌then◌else◌}
 use Rattle.tv_value.specs.Values.{Name, Text}
-use Rattle.tv_check.specs.Faulty.{Kind, no_such_port, no_such_service, no_such_flow, flow_cycle, link_cycle, strategy_ports, dot_depths, merge_depths, nested_ports, too_deep, input_missing, input_unknown, input_depth, Where, at_main, at_flow, at_step, at_input, at_output, at_activity, at_after, at_flow_output, at_given, CheckComplaint}
+use Rattle.tv_check.specs.Faulty.{Kind, no_such_port, no_such_service, no_such_flow, flow_cycle, link_cycle, strategy_ports, dot_depths, merge_depths, nested_ports, too_deep, input_missing, input_unknown, input_depth, loop_nested, loop_depths, prefix_depths, Where, at_main, at_flow, at_step, at_input, at_output, at_activity, at_after, at_loop, at_flow_output, at_given, CheckComplaint}
 
 abbrev pub check_number : Kind → ℕ
 check_number no_such_port = 1
@@ -17,6 +17,9 @@ check_number too_deep = 10
 check_number input_missing = 11
 check_number input_unknown = 12
 check_number input_depth = 13
+check_number loop_nested = 14
+check_number loop_depths = 15
+check_number prefix_depths = 16
 
 abbrev pub check_words : Kind → Text
 check_words no_such_port = codes "no such port"
@@ -32,6 +35,9 @@ check_words too_deep = codes "too deep"
 check_words input_missing = codes "input missing"
 check_words input_unknown = codes "input unknown"
 check_words input_depth = codes "input depth"
+check_words loop_nested = codes "loop nested"
+check_words loop_depths = codes "loop depths"
+check_words prefix_depths = codes "prefix depths"
 
 -- whether a complaint of that kind has its two numbers printed
 abbrev pub has_numbers : Kind → Bool
@@ -48,6 +54,9 @@ has_numbers too_deep = true
 has_numbers input_missing = false
 has_numbers input_unknown = false
 has_numbers input_depth = true
+has_numbers loop_nested = false
+has_numbers loop_depths = true
+has_numbers prefix_depths = true
 
 abbrev pub flow_text : Name → Text
 flow_text f = codes "flow " ++ f
@@ -64,6 +73,7 @@ spot_text (at_input f s p) = step_text f s ++ codes " input " ++ p
 spot_text (at_output f s p) = step_text f s ++ codes " output " ++ p
 spot_text (at_activity f s k) = step_text f s ++ codes " activity " ++ decimal k
 spot_text (at_after f s k) = step_text f s ++ codes " after " ++ decimal k
+spot_text (at_loop f s) = step_text f s ++ codes " loop"
 spot_text (at_flow_output f p) = flow_text f ++ codes " output " ++ p
 spot_text (at_given p) = codes "input " ++ p
 

@@ -3,6 +3,7 @@ pub mod CheckLines
 pub mod DepthLines
 pub mod PlanLines
 pub mod ResultLines
+pub mod UpgradeTexts
 pub mod Tokens
 pub mod TraceLines
 pub mod AskCounts

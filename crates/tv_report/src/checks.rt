@@ -60,6 +60,7 @@ fn push_spot(text: &mut String, spot: &Spot) -> Result<(), NoMemory>
             step,
             position,
         } => push_position(text, flow, step, " after ", *position),
+        Spot::Loop { flow, step } => push_loop(text, flow, step),
         Spot::FlowOutput { flow, port } => push_flow_output(text, flow, port),
         Spot::Given { port } => push_given(text, port),
     }
@@ -123,6 +124,15 @@ fn push_position(
     push_number(text, position)
 }
 
+fn push_loop(text: &mut String, flow: &Name, step: &Name) -> Result<(), NoMemory>
+    ensures { OnOk result (string_bytes text.new ≡ string_bytes text.old
+        ++ (step_text flow.now step.now ++ codes " loop")) }
+{
+    push_step(text, flow, step)?;
+    text.push_str(" loop")?;
+    Ok(())
+}
+
 fn push_flow_output(text: &mut String, flow: &Name, port: &Name) -> Result<(), NoMemory>
     ensures { OnOk result (string_bytes text.new ≡ string_bytes text.old
         ++ (flow_text flow.now ++ codes " output " ++ port.now)) }
@@ -149,7 +159,9 @@ fn has_numbers(kind: CheckKind) -> bool
         CheckKind::DotDepths
         | CheckKind::MergeDepths
         | CheckKind::TooDeep
-        | CheckKind::InputDepth => true,
+        | CheckKind::InputDepth
+        | CheckKind::LoopDepths
+        | CheckKind::PrefixDepths => true,
         _ => false,
     }
 }
@@ -171,6 +183,9 @@ fn check_number(kind: CheckKind) -> u32
         CheckKind::InputMissing => 11,
         CheckKind::InputUnknown => 12,
         CheckKind::InputDepth => 13,
+        CheckKind::LoopNested => 14,
+        CheckKind::LoopDepths => 15,
+        CheckKind::PrefixDepths => 16,
     }
 }
 
@@ -191,5 +206,8 @@ fn check_words(kind: CheckKind) -> &'static str
         CheckKind::InputMissing => "input missing",
         CheckKind::InputUnknown => "input unknown",
         CheckKind::InputDepth => "input depth",
+        CheckKind::LoopNested => "loop nested",
+        CheckKind::LoopDepths => "loop depths",
+        CheckKind::PrefixDepths => "prefix depths",
     }
 }

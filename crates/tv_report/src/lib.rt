@@ -6,6 +6,7 @@
 //! - `results`: the result line of a run
 //! - `depths`: the lines of `check`
 //! - `traces`: the lines of `trace`
+//! - `upgrades`: the line of `upgrade`
 #![tactic(auto)]
 
 mod checks;
@@ -13,9 +14,11 @@ mod depths;
 mod forms;
 mod results;
 mod traces;
+mod upgrades;
 
 pub use checks::check_line;
 pub use depths::depth_lines;
 pub use forms::form_line;
 pub use results::{NamedValues, result_line};
 pub use traces::trace_lines;
+pub use upgrades::upgraded_line;

@@ -73,7 +73,7 @@ pub some-activity : (d : Document) → is_formed d ≡ true → (n : Name) (f : 
     (t : Name × Step) → slice_get f.steps k ≡ Some t → 0 < length (tries_of t.1).activities
 some-activity d formed n f is k t at =
     let h = step-at f (formed-flow d formed n f is) k t at in
-    let listed = (and_parts _ _ (and_parts _ _ (and_parts _ _ (and_parts _ _ h).0).0).0).1 in
+    let listed = (and_parts _ _ (and_parts _ _ (and_parts _ _ (and_parts _ _ (and_parts _ _ h).0).0).0).0).1 in
     let least = (and_parts _ _ (and_parts _ _ listed).0).0 in
     let one : 1 ≤ length t.1.activities = leb-true 1 (length t.1.activities) least in
     let many = length-map t.1.activities kind_of in

@@ -13,7 +13,7 @@ use Rattle.tv_value.proofs.NameLemmas.{same_name-refl}
 use Rattle.tv_naming.specs.Numbers.{number_in}
 use Rattle.tv_naming.proofs.ByPosition.{number-absent, number-found}
 use Rattle.tv_naming.proofs.FormedParts.{ascending, each-names, few}
-use Rattle.tv_flow.specs.Formed.{are_entries, are_named, is_ascending, is_between, is_flow, is_formed, is_value}
+use Rattle.tv_flow.specs.Formed.{are_entries, are_named, is_ascending, are_of_format, is_between, is_flow, is_formed, is_value}
 use Rattle.tv_flow.specs.DocumentViews.{document_view}
 use Rattle.tv_flow.specs.Flows.{Document, Flow, Step}
 use Rattle.tv_flow.specs.Forms.{is_name}
@@ -209,5 +209,5 @@ flows-are run doc is = record {
 
     named-so : are_named is_flow 1 256 d.flows ≡ true
     named-so =
-        second_so (is_between 1 1 d.format && is_name d.main) (are_named is_flow 1 256 d.flows)
-        (first_so (is_between 1 1 d.format && is_name d.main && are_named is_flow 1 256 d.flows) (are_entries is_value d.inputs) formed)
+        second_so (are_of_format d.format d.flows && is_name d.main) (are_named is_flow 1 256 d.flows)
+        (first_so (are_of_format d.format d.flows && is_name d.main && are_named is_flow 1 256 d.flows) (are_entries is_value d.inputs) formed)

@@ -25,6 +25,7 @@ use Rattle.tv_matching.proofs.Members.{each-permutes}
 use Rattle.tv_match.specs.declared.matchers.Matcher.{Matcher}
 use Rattle.tv_match.specs.Filed.{filed}
 use Rattle.tv_match.specs.Seen.{IsSound, in_order, matching}
+use Rattle.tv_match.proofs.Calls.{told-fit}
 use Rattle.tv_match.proofs.Faults.{all-in_order}
 use Rattle.tv_intake.specs.declared.intakes.Intakes.{Intakes}
 use Rattle.tv_intake.specs.Intaken.{AreIntaken, CanShow, HasRoom, IsMade, IsMadeAt, IsSoundAt, OthersStay, brought_at, faulty_ahead_at, known_jobs, matcher_at, waiting_things}
@@ -52,7 +53,7 @@ pub ordered-at : (m : Matcher) → IsSound m → Each (OutAt (strategy_depth (nu
 ordered-at m a =
     let n = matching m in
     let d = strategy_depth (number_of n.mismatch) n.strategy in
-    let leveled = (matches-once (number_of n.mismatch) n.told a.keeps.fit a.keeps.once n.strategy a.keeps.agree).1 in
+    let leveled = (matches-once (number_of n.mismatch) n.told (told-fit (strategy_view m.tree) m.mismatch (filed m.root) m.log m.out m.told m.given a.keeps) a.keeps.once n.strategy a.keeps.agree).1 in
     each-permutes (OutAt d) (all_out n) (in_order m)
     (IsPermutation-sym _ _ (all-in_order (strategy_view m.tree) m.mismatch (filed m.root) m.log m.out m.told m.given a.keeps))
     (each-map (OutAt d) (out n.strategy) (matched_after n.strategy n.told)

@@ -1,15 +1,17 @@
 -- Joining undoes splitting, and gives nothing only where two children of a dot have different places.
-use Rattle.std.specs.Prelude.{◌≡◌, ◌≢◌, ◌⊎◌, refl, ℕ, ◌+◌, ◌-◌, min, List, [], ◌∷◌, ◌++◌, length, take, drop, Bool, true, false, if◌then◌else◌, Option, Some, None, IfSome, IsNone, is_some, ◌↔◌, Result, Ok, Err, IfOk}
+use Rattle.std.specs.Prelude.{◌≡◌, ◌≢◌, ◌⊎◌, refl, ℕ, zero, suc, ◌+◌, ◌-◌, ◌≤◌, min, List, [], ◌∷◌, ◌++◌, length, take, drop, Bool, true, false, ◌==◌, if◌then◌else◌, Option, Some, None, IfSome, IsNone, is_some, ◌↔◌, Result, Ok, Err, IfOk}
 use Rattle.std.proofs.Common.{arith, ap, sym, subst, ◌∙◌, inl, inr, length-append, length-take, length-drop}
 use Rattle.std.proofs.lemmas.List.{take-append-drop}
 use Rattle.tv_lemmas.proofs.Cases.{on_either}
 use Rattle.tv_value.specs.Nested.{Place}
 use Rattle.tv_value.specs.Values.{Name}
-use Rattle.tv_value.specs.Strategies.{Strategy, port, cross, dot, Strategies, no_strategies, strategy}
+use Rattle.tv_value.specs.Orders.{is_prefix}
+use Rattle.std.proofs.lemmas.Bool.{and_parts, and_from, eqb-true, eq-eqb}
+use Rattle.tv_value.specs.Strategies.{Strategy, port, cross, dot, prefix, Strategies, no_strategies, strategy}
 use Rattle.tv_strategy.specs.Measures.{strategy_depth, sum_of_depths, first_depth, leaf_names, all_leaf_names, DotsAgree, AllDotsAgree, HaveOneDepth}
-use Rattle.tv_strategy.specs.Splits.{split, split_cross, split_dot, same_place, one_after, in_common, joined, joined_cross, joined_dot}
+use Rattle.tv_strategy.specs.Splits.{split, split_cross, split_dot, same_place, one_after, in_common, gone_on, joined, joined_cross, joined_dot}
 use Rattle.tv_strategy.specs.Conditions.{HaveLengths}
-use Rattle.tv_strategy.specs.Promises.{AreOf, SplitsInto, UndoesSplit, HaveTwoPlaces, DotDiffers, SomeDotDiffers}
+use Rattle.tv_strategy.specs.Promises.{AreOf, SplitsInto, UndoesSplit, HaveTwoPlaces, LeavesPlace, DotDiffers, SomeDotDiffers}
 use Rattle.tv_strategy.proofs.PlaceLemmas.{same-equal, same-itself}
 
 -- ---- lists of places
@@ -72,6 +74,40 @@ in_common-some (Some f) (Some b) q h =
     let e = either-some (same_place f b) f q h in
     (ap Some e.1, ap Some (sym (same-equal f b e.0) ∙ e.1))
 
+-- ---- first parts
+
+pub prefix-front : (q r : Place) → is_prefix q r ≡ true → q ≡ take (length q) r
+prefix-front [] r h = refl
+prefix-front (i ∷ q) [] h = absurd (cc)
+prefix-front (i ∷ q) (j ∷ r) h =
+    let e = and_parts (i == j) (is_prefix q r) h in
+    ap (λ k. k ∷ q) (eqb-true i j e.0) ∙ ap (λ s. j ∷ s) (prefix-front q r e.1)
+
+pub prefix-take : (n : ℕ) (q : Place) → is_prefix (take n q) q ≡ true
+prefix-take zero q = refl
+prefix-take (suc n) [] = refl
+prefix-take (suc n) (i ∷ q) = and_from (i == i) (is_prefix (take n q) q) (eq-eqb i i refl) (prefix-take n q)
+
+-- both are there, and the second begins with the first
+pub record GoneOn (o p : Option Place) (q : Place) : Type 0 where
+  pub front : Place
+  pub left_is : o ≡ Some front
+  pub right_is : p ≡ Some q
+  pub begins : front ≡ take (length front) q
+
+pub gone_on-some : (o p : Option Place) (q : Place) → gone_on o p ≡ Some q → GoneOn o p q
+gone_on-some None p q h = absurd (cc)
+gone_on-some (Some f) None q h = absurd (cc)
+gone_on-some (Some f) (Some b) q h =
+    let e = either-some (is_prefix f b) b q h in
+    record { front = f; left_is = refl; right_is = ap Some e.1; begins = prefix-front f b e.0 ∙ ap (take (length f)) e.1 }
+
+front-short : (f q : Place) → f ≡ take (length f) q → length f ≤ length q
+front-short f q e = least (length f) (length q) (ap length e ∙ length-take (length f) q)
+  where
+    least : (n m : ℕ) → n ≡ min n m → n ≤ m
+    least n m h = omega arith
+
 module _ (mismatch : Name → ℕ) (ports : Name → Place) where
   -- ---- what comes of joining splits into the ports' places
 
@@ -86,6 +122,17 @@ module _ (mismatch : Name → ℕ) (ports : Name → Place) where
     joined-fits (port p) q l h = let e : ports p ≡ q = cc in record { agree = tt; long = ap length (sym e) ∙ l.0; are = (e, tt) }
     joined-fits (cross cs) q l h = let f = cross-fits cs q l h in record { agree = f.0; long = f.1; are = f.2 }
     joined-fits (dot cs) q l h = let f = dot-fits cs q l h in record { agree = (f.0, f.1); long = f.2; are = f.3 }
+    joined-fits (prefix c d) q l h =
+        let ls = lengths-parts mismatch ports (leaf_names c) (leaf_names d) l in
+        let j = gone_on-some (joined ports c) (joined ports d) q h in
+        let first = joined-fits c j.front ls.0 j.left_is in
+        let rest = joined-fits d q ls.1 j.right_is in
+        let front : j.front ≡ take (strategy_depth mismatch c) q = j.begins ∙ ap (λ n. take n q) first.long in
+        record {
+          agree = (first.agree, rest.agree, subst (λ n. n ≤ strategy_depth mismatch d) first.long (subst (λ n. length j.front ≤ n) rest.long (front-short j.front q j.begins)));
+          long = rest.long;
+          are = are-append ports (split mismatch c (take (strategy_depth mismatch c) q)) (split mismatch d q) (subst (λ p. AreOf ports (split mismatch c p)) front first.are) rest.are;
+        }
 
     cross-fits : (cs : Strategies) (q : Place) → HaveLengths mismatch ports (all_leaf_names cs) → joined_cross ports cs ≡ Some q → AllDotsAgree mismatch cs × (length q ≡ sum_of_depths mismatch cs) × AreOf ports (split_cross mismatch cs q)
     cross-fits no_strategies q l h = (tt, ap length (empty q h), tt)
@@ -125,6 +172,16 @@ module _ (mismatch : Name → ℕ) (ports : Name → Place) where
     split-joined (port p) q a l h = ap Some h.0
     split-joined (cross cs) q a l h = cross-joined cs q a l h
     split-joined (dot cs) q a l h = dot-joined cs q a.0 a.1 l h
+    split-joined (prefix c d) q a l h =
+        let n = strategy_depth mismatch c in
+        let hs = are-parts ports (split mismatch c (take n q)) (split mismatch d q) h in
+        let long : length (take n q) ≡ n = length-take n q ∙ least n (length q) (subst (λ m. n ≤ m) (sym l) a.2) in
+        ap (λ x. gone_on x (joined ports d)) (split-joined c (take n q) a.0 long hs.0)
+        ∙ ap (gone_on (Some (take n q))) (split-joined d q a.1 l hs.1)
+        ∙ ap (λ b. if b then Some q else None) (prefix-take n q)
+      where
+        least : (n m : ℕ) → n ≤ m → min n m ≡ n
+        least n m h = omega arith
 
     cross-joined : (cs : Strategies) (q : Place) → AllDotsAgree mismatch cs → length q ≡ sum_of_depths mismatch cs → AreOf ports (split_cross mismatch cs q) → joined_cross ports cs ≡ Some q
     cross-joined no_strategies [] a l h = refl
@@ -169,6 +226,10 @@ in_common-nothing : (o : Option Place) → in_common o None ≡ None
 in_common-nothing None = refl
 in_common-nothing (Some q) = refl
 
+gone_on-nothing : (o : Option Place) → gone_on o None ≡ None
+gone_on-nothing None = refl
+gone_on-nothing (Some q) = refl
+
 -- two places in common are none where they differ
 abbrev Differ : Option Place → Option Place → Type 0
 Differ o p = (q : Place) × (r : Place) × (o ≡ Some q) × (p ≡ Some r) × (q ≢ r)
@@ -185,6 +246,19 @@ in_common-none (Some q) (Some r) h = inr (inr (q, r, refl, refl, other (same_pla
         apart : (b : Bool) → b ≡ false → b ≡ true → ⊥
         apart true i j = absurd (cc)
         apart false i j = absurd (cc)
+
+-- and a place that should go on is none where it leaves the other
+gone_on-none : (o p : Option Place) → gone_on o p ≡ None → (o ≡ None) ⊎ ((p ≡ None) ⊎ LeavesPlace o p)
+gone_on-none None p h = inl refl
+gone_on-none (Some q) None h = inr (inl refl)
+gone_on-none (Some q) (Some r) h = inr (inr (q, r, refl, refl, other (is_prefix q r) h))
+  where
+    other : (b : Bool) → (if b then Some r else None) ≡ None → b ≡ false
+    other true e = absurd (cc)
+    other false e = refl
+
+leaves-none : (o p : Option Place) → LeavesPlace o p → gone_on o p ≡ None
+leaves-none o p h = ap (λ x. gone_on x p) h.2 ∙ ap (gone_on (Some h.0)) h.3 ∙ ap (λ b. if b then Some h.1 else None) h.4
 
 in_common-differ : (q r : Place) → q ≢ r → in_common (Some q) (Some r) ≡ None
 in_common-differ q r n = other (same_place q r) refl
@@ -207,6 +281,9 @@ module _ (ports : Name → Place) where
     none-differs (port p) h = absurd (cc)
     none-differs (cross cs) h = cross-differs cs h
     none-differs (dot cs) h = dot-differs cs h
+    none-differs (prefix l r) h =
+        on_either (gone_on-none (joined ports l) (joined ports r) h) (λ k. inl (inl (none-differs l k)))
+        (λ k. on_either k (λ j. inl (inr (none-differs r j))) (λ j. inr j))
 
     cross-differs : (cs : Strategies) → joined_cross ports cs ≡ None → SomeDotDiffers ports cs
     cross-differs no_strategies h = absurd (cc)
@@ -233,6 +310,10 @@ module _ (ports : Name → Place) where
     differs-none (port p) h = absurd h
     differs-none (cross cs) h = some-none cs h
     differs-none (dot cs) h = on_either h (λ k. child-none cs k) (λ k. places-none cs k)
+    differs-none (prefix l r) h =
+        on_either h
+        (λ k. on_either k (λ j. ap (λ o. gone_on o (joined ports r)) (differs-none l j)) (λ j. ap (gone_on (joined ports l)) (differs-none r j) ∙ gone_on-nothing (joined ports l)))
+        (λ k. leaves-none (joined ports l) (joined ports r) k)
 
     some-none : (cs : Strategies) → SomeDotDiffers ports cs → joined_cross ports cs ≡ None
     some-none no_strategies h = absurd h

@@ -1,14 +1,14 @@
 -- The other laws of iteration.
-use Rattle.std.specs.Prelude.{◌≡◌, refl, ℕ, ◌==◌, [], ◌++◌, not, cond, take, drop, Bool, true, false, Option, Some, None, option_map, Ok}
+use Rattle.std.specs.Prelude.{◌≡◌, refl, ℕ, ◌≤◌, ◌==◌, nat_lt, [], ◌++◌, not, cond, take, drop, Bool, true, false, Option, Some, None, option_map, Ok}
 use Rattle.std.specs.Option.{option_or}
 use Rattle.std.proofs.Common.{ap, sym, subst, ◌∙◌}
-use Rattle.std.proofs.lemmas.Bool.{eqb-true, eq-eqb}
+use Rattle.std.proofs.lemmas.Bool.{eqb-true, eq-eqb, ltb-false, le-ltb}
 use Rattle.std.proofs.lemmas.List.{map-append}
 use Rattle.tv_value.specs.Nested.{Place}
 use Rattle.tv_value.specs.Values.{Name, HasDepth}
-use Rattle.tv_value.specs.Strategies.{Strategy, port, cross, dot, Strategies, no_strategies, strategy}
+use Rattle.tv_value.specs.Strategies.{Strategy, port, cross, dot, prefix, Strategies, no_strategies, strategy}
 use Rattle.tv_strategy.specs.Iterations.{walks, iteration}
-use Rattle.tv_strategy.specs.Measures.{strategy_depth, leaf_names, all_leaf_names, DotsAgree, AllDotsAgree, HaveOneDepth, Difference, depths_of, first_other, first_difference, first_inside, measured}
+use Rattle.tv_strategy.specs.Measures.{strategy_depth, leaf_names, all_leaf_names, DotsAgree, AllDotsAgree, HaveOneDepth, Difference, depths_of, first_other, in_prefix, difference_if, less_deep, first_difference, first_inside, measured}
 use Rattle.tv_strategy.specs.Splits.{split, split_cross, split_dot}
 use Rattle.tv_strategy.specs.Conditions.{names_in}
 use Rattle.tv_strategy.specs.Stated.{EndsStandAtDepth, OutputsHaveDepth, AgreeWithoutDifference, SplitNamesLeaves, SourcesAreNodes, OutputsAreOfSources, Passes, JoinsNothingWhereDotDiffers}
@@ -36,13 +36,23 @@ or-none (Some x) p h = absurd (cc)
 or-both : {A : Type 0} (o p : Option A) → o ≡ None → p ≡ None → option_or o p ≡ None
 or-both o p h k = ap (λ x. option_or x p) h ∙ k
 
+none-deep : (d e : ℕ) → less_deep d e ≡ None → d ≤ e
+none-deep d e h = by (nat_lt e d) refl h
+  where
+    by : (b : Bool) → nat_lt e d ≡ b → difference_if b (in_prefix d e) ≡ None → d ≤ e
+    by true s k = absurd (cc)
+    by false s k = ltb-false e d s
+
+deep-none : (d e : ℕ) → d ≤ e → less_deep d e ≡ None
+deep-none d e h = ap (λ b. difference_if b (in_prefix d e)) (le-ltb e d h)
+
 -- all of these have this depth
 abbrev AllAre : (Name → ℕ) → ℕ → Strategies → Type 0
 AllAre ports d no_strategies = Unit {0}
 AllAre ports d (strategy c cs) = (strategy_depth ports c ≡ d) × AllAre ports d cs
 
 module _ (ports : Name → ℕ) where
-  told-none : (d : ℕ) (o : Option ℕ) → option_map {U = Difference} (λ e. record { first = d; second = e }) o ≡ None → o ≡ None
+  told-none : (d : ℕ) (o : Option ℕ) → option_map {U = Difference} (λ e. record { prefixed = false; first = d; second = e }) o ≡ None → o ≡ None
   told-none d None h = refl
   told-none d (Some e) h = absurd (cc)
 
@@ -75,12 +85,16 @@ module _ (ports : Name → ℕ) where
 
   one-other : (cs : Strategies) → HaveOneDepth ports cs → first_other (depths_of ports cs) ≡ None
   one-other no_strategies h = refl
-  one-other (strategy c cs) h = ap (option_map {U = Difference} (λ e. record { first = strategy_depth ports c; second = e })) (others-none (strategy_depth ports c) cs (one-all c cs h))
+  one-other (strategy c cs) h = ap (option_map {U = Difference} (λ e. record { prefixed = false; first = strategy_depth ports c; second = e })) (others-none (strategy_depth ports c) cs (one-all c cs h))
 
   mutual
     pub none-agree : (s : Strategy) → first_difference ports s ≡ None → DotsAgree ports s
     none-agree (port p) h = tt
     none-agree (cross cs) h = all-agree cs h
+    none-agree (prefix l r) h =
+        let k = or-none (option_or (first_difference ports l) (first_difference ports r)) (less_deep (strategy_depth ports l) (strategy_depth ports r)) h in
+        let j = or-none (first_difference ports l) (first_difference ports r) k.0 in
+        (none-agree l j.0, none-agree r j.1, none-deep (strategy_depth ports l) (strategy_depth ports r) k.1)
     none-agree (dot cs) h = let k = or-none (first_inside ports cs) (first_other (depths_of ports cs)) h in (all-agree cs k.0, other-one cs k.1)
 
     all-agree : (cs : Strategies) → first_inside ports cs ≡ None → AllDotsAgree ports cs
@@ -91,6 +105,9 @@ module _ (ports : Name → ℕ) where
     pub agree-none : (s : Strategy) → DotsAgree ports s → first_difference ports s ≡ None
     agree-none (port p) h = refl
     agree-none (cross cs) h = agree-inside cs h
+    agree-none (prefix l r) h =
+        or-both (option_or (first_difference ports l) (first_difference ports r)) (less_deep (strategy_depth ports l) (strategy_depth ports r))
+        (or-both (first_difference ports l) (first_difference ports r) (agree-none l h.0) (agree-none r h.1)) (deep-none (strategy_depth ports l) (strategy_depth ports r) h.2)
     agree-none (dot cs) h = or-both (first_inside ports cs) (first_other (depths_of ports cs)) (agree-inside cs h.0) (one-other cs h.1)
 
     agree-inside : (cs : Strategies) → AllDotsAgree ports cs → first_inside ports cs ≡ None
@@ -112,6 +129,11 @@ module _ (ports : Name → ℕ) where
     split-names (port p) q = refl
     split-names (cross cs) q = cross-names cs q
     split-names (dot cs) q = dot-names cs q
+    split-names (prefix l r) q =
+        let n = strategy_depth ports l in
+        map-append (λ r. r.0) (split ports l (take n q)) (split ports r q)
+        ∙ ap (λ ns. ns ++ names_in (split ports r q)) (split-names l (take n q))
+        ∙ ap (λ ns. leaf_names l ++ ns) (split-names r q)
 
     cross-names : (cs : Strategies) (q : Place) → names_in (split_cross ports cs q) ≡ all_leaf_names cs
     cross-names no_strategies q = refl

@@ -1,11 +1,11 @@
 -- The places that a place splits into meet the conditions of joining, and join to it.
-use Rattle.std.specs.Prelude.{◌≡◌, refl, ℕ, suc, List, [], ◌∷◌, ◌++◌, length, take, drop, Bool, true, false, if◌then◌else◌, Some, unwrap_or}
-use Rattle.std.proofs.Common.{arith, ap, sym, subst, ◌∙◌, append_assoc}
+use Rattle.std.specs.Prelude.{◌≡◌, refl, ℕ, suc, ◌≤◌, min, List, [], ◌∷◌, ◌++◌, length, take, drop, Bool, true, false, if◌then◌else◌, Some, unwrap_or}
+use Rattle.std.proofs.Common.{arith, ap, sym, subst, ◌∙◌, append_assoc, length-take}
 use Rattle.tv_lemmas.specs.Members.{Each}
 use Rattle.tv_value.specs.Nested.{Place}
 use Rattle.tv_value.specs.Values.{Name}
 use Rattle.tv_value.specs.Orders.{same_name, named}
-use Rattle.tv_value.specs.Strategies.{Strategy, port, cross, dot, Strategies, no_strategies, strategy}
+use Rattle.tv_value.specs.Strategies.{Strategy, port, cross, dot, prefix, Strategies, no_strategies, strategy}
 use Rattle.tv_strategy.specs.Measures.{strategy_depth, sum_of_depths, first_depth, leaf_names, DotsAgree, AllDotsAgree, HaveOneDepth}
 use Rattle.tv_strategy.specs.Splits.{split, split_cross, split_dot}
 use Rattle.tv_strategy.specs.Conditions.{HaveLengths, EachOnce, names_in, number_of, place_of, times}
@@ -49,6 +49,12 @@ module _ (mismatch : Name → ℕ) where
     split-long (port p) q a h = (h, tt)
     split-long (cross cs) q a h = cross-long cs q a h
     split-long (dot cs) q a h = dot-long cs q a.0 a.1 h
+    split-long (prefix c d) q a h =
+        let n = strategy_depth mismatch c in
+        each-append Long (split mismatch c (take n q)) (split mismatch d q) (split-long c (take n q) a.0 (length-take n q ∙ least n (length q) (subst (λ m. n ≤ m) (sym h) a.2))) (split-long d q a.1 h)
+      where
+        least : (n m : ℕ) → n ≤ m → min n m ≡ n
+        least n m h = omega arith
 
     cross-long : (cs : Strategies) (q : Place) → AllDotsAgree mismatch cs → length q ≡ sum_of_depths mismatch cs → Each Long (split_cross mismatch cs q)
     cross-long no_strategies q a h = tt

@@ -3,15 +3,18 @@ use Rattle.std.specs.Prelude.{◌≡◌, refl, ℕ, ◌+◌, ◌≤◌, max, [],
 use Rattle.std.proofs.Common.{arith, ap, sym, subst, ◌∙◌, length-append}
 use Rattle.tv_value.specs.Nested.{Place}
 use Rattle.tv_value.specs.Values.{Name}
-use Rattle.tv_value.specs.Strategies.{Strategy, port, cross, dot, Strategies, no_strategies, strategy}
+use Rattle.tv_value.specs.Strategies.{Strategy, port, cross, dot, prefix, Strategies, no_strategies, strategy}
 use Rattle.tv_strategy.specs.Measures.{strategy_depth, sum_of_depths, first_depth, leaf_names, all_leaf_names, DotsAgree, AllDotsAgree, HaveOneDepth}
 use Rattle.tv_strategy.specs.Splits.{joined, joined_cross, joined_dot}
 use Rattle.tv_strategy.specs.Conditions.{HaveLengths}
 use Rattle.tv_strategy.specs.Rooms.{place_room, room_of_all, room_of_most}
-use Rattle.tv_strategy.proofs.Joins.{one_after-some, in_common-some, lengths-parts}
+use Rattle.tv_strategy.proofs.Joins.{one_after-some, in_common-some, gone_on-some, lengths-parts}
 
 left : (a m n : ℕ) → a ≤ m → a ≤ max m n
 left a m n h = omega arith
+
+right : (a m n : ℕ) → a ≤ n → a ≤ max m n
+right a m n h = omega arith
 
 module _ (ports : Name → Place) where
   mutual
@@ -19,6 +22,7 @@ module _ (ports : Name → Place) where
     joined-room (port p) q h = let e : ports p ≡ q = cc in subst (λ r. length r ≤ length (ports p)) e (omega arith)
     joined-room (cross cs) q h = cross-room cs q h
     joined-room (dot cs) q h = dot-room cs q h
+    joined-room (prefix l r) q h = right (length q) (place_room ports l) (place_room ports r) (joined-room r q (gone_on-some (joined ports l) (joined ports r) q h).right_is)
 
     cross-room : (cs : Strategies) (q : Place) → joined_cross ports cs ≡ Some q → length q ≤ room_of_all ports cs
     cross-room no_strategies q h = let e : [] ≡ q = cc in subst (λ r. length r ≤ 0) e (omega arith)
@@ -61,6 +65,12 @@ module _ (mismatch : Name → ℕ) (ports : Name → Place) where
     room-depth (port p) l a = l.0
     room-depth (cross cs) l a = all-depth cs l a
     room-depth (dot cs) l a = most-depth cs l a.0 a.1
+    room-depth (prefix f b) l a =
+        let ls = lengths-parts mismatch ports (leaf_names f) (leaf_names b) l in
+        most (place_room ports f) (place_room ports b) (strategy_depth mismatch f) (strategy_depth mismatch b) (room-depth f ls.0 a.0) (room-depth b ls.1 a.1) a.2
+      where
+        most : (a b n m : ℕ) → a ≡ n → b ≡ m → n ≤ m → max a b ≡ m
+        most a b n m h k o = omega arith
 
     all-depth : (cs : Strategies) → HaveLengths mismatch ports (all_leaf_names cs) → AllDotsAgree mismatch cs → room_of_all ports cs ≡ sum_of_depths mismatch cs
     all-depth no_strategies l a = refl

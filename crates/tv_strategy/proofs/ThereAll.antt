@@ -1,12 +1,12 @@
 -- A job stands wherever something stands at all of the places that its place splits into.
-use Rattle.std.specs.Prelude.{◌≡◌, refl, ℕ, zero, suc, List, [], ◌∷◌, ◌++◌, length, take, drop, Option, Some, None, IsSome, option_map, option_and_then}
-use Rattle.std.proofs.Common.{arith, ap, sym, subst, ◌∙◌}
+use Rattle.std.specs.Prelude.{◌≡◌, refl, ℕ, zero, suc, ◌≤◌, min, List, [], ◌∷◌, ◌++◌, length, take, drop, Option, Some, None, IsSome, option_map, option_and_then}
+use Rattle.std.proofs.Common.{arith, ap, sym, subst, ◌∙◌, length-take}
 use Rattle.std.proofs.lemmas.List.{take-append-drop}
 use Rattle.std.proofs.lemmas.Option.{same_Some}
 use Rattle.tv_lemmas.specs.Members.{Each}
 use Rattle.tv_value.specs.Nested.{leaf, list, Place, notes, at, item_at}
 use Rattle.tv_value.specs.Values.{Name}
-use Rattle.tv_value.specs.Strategies.{Strategy, port, cross, dot, Strategies, no_strategies, strategy}
+use Rattle.tv_value.specs.Strategies.{Strategy, port, cross, dot, prefix, Strategies, no_strategies, strategy}
 use Rattle.tv_strategy.specs.Origins.{Origin, Traced}
 use Rattle.tv_strategy.specs.Iterations.{Binding, job, Iteration, end_with, walk, walks, added, crossed, paired, iteration, cross_of, dot_of, one_job}
 use Rattle.tv_strategy.specs.Measures.{strategy_depth, sum_of_depths, first_depth, DotsAgree, AllDotsAgree, HaveOneDepth}
@@ -78,6 +78,34 @@ paired-jobs t u q j k = record {
   is = paired-there q t u (leaf j.sources (job j.binding)) (leaf k.sources (job k.binding)) j.is k.is;
 }
 
+-- what stands further inside stands inside of something
+record Through (t : Iteration) (q r : Place) (v : Iteration) : Type 0 where
+  mid : Iteration
+  mid_is : at t q ≡ Some mid
+  rest_is : at mid r ≡ Some v
+
+through_item : (q r : Place) (v : Iteration) (o : Option Iteration) → ((t : Iteration) → at t (q ++ r) ≡ Some v → Through t q r v) → option_and_then (λ t. at t (q ++ r)) o ≡ Some v → (m : Iteration) × (option_and_then (λ t. at t q) o ≡ Some m) × (at m r ≡ Some v)
+through_item q r v None rec h = absurd (cc)
+through_item q r v (Some t) rec h = let m = rec t h in (m.mid, m.mid_is, m.rest_is)
+
+through : (q r : Place) (t v : Iteration) → at t (q ++ r) ≡ Some v → Through t q r v
+through [] r t v h = record { mid = t; mid_is = refl; rest_is = h }
+through (i ∷ q) r (leaf s e) v h = absurd (cc)
+through (i ∷ q) r (list s ts) v h =
+    let m = through_item q r v (item_at ts i) (λ t k. through q r t v k) h in
+    record { mid = m.0; mid_is = m.1; rest_is = m.2 }
+
+prefix-jobs : (t u : Iteration) (q r : Place) → JobThere (at t q) → JobThere (at u (q ++ r)) → JobThere (at (paired t u) (q ++ r))
+prefix-jobs t u q r j k =
+    let m = through q r u (leaf k.sources (job k.binding)) k.is in
+    record {
+      sources = j.sources ++ k.sources;
+      binding = j.binding ++ k.binding;
+      is =
+          at-on q r (paired t u) (added j.sources j.binding m.mid) (paired-there q t u (leaf j.sources (job j.binding)) m.mid j.is m.mid_is)
+          ∙ added-there j.sources j.binding r m.mid (leaf k.sources (job k.binding)) m.rest_is;
+    }
+
 -- ---- every strategy
 
 no_ports : JobThere (at one_job [])
@@ -92,6 +120,17 @@ module _ (mismatch : Name → ℕ) (values : Name → Traced) where
     there-job (port p) q a l h = walk-there p q (mismatch p) (values p) l h.0
     there-job (cross cs) q a l h = there-cross cs q a l h
     there-job (dot cs) q a l h = there-dot cs q a.0 a.1 l h
+    there-job (prefix c d) q a l h =
+        let n = strategy_depth mismatch c in
+        let hs = each-parts There (split mismatch c (take n q)) (split mismatch d q) h in
+        let whole = take-append-drop n q in
+        let first = there-job c (take n q) a.0 (length-take n q ∙ least n (length q) (subst (λ m. n ≤ m) (sym l) a.2)) hs.0 in
+        let rest = there-job d q a.1 l hs.1 in
+        subst (λ p. JobThere (at (paired (iteration (walks mismatch values) c) (iteration (walks mismatch values) d)) p)) whole
+        (prefix-jobs (iteration (walks mismatch values) c) (iteration (walks mismatch values) d) (take n q) (drop n q) first (subst (λ p. JobThere (at (iteration (walks mismatch values) d) p)) (sym whole) rest))
+      where
+        least : (n m : ℕ) → n ≤ m → min n m ≡ n
+        least n m h = omega arith
 
     there-cross : (cs : Strategies) (q : Place) → AllDotsAgree mismatch cs → length q ≡ sum_of_depths mismatch cs → Each There (split_cross mismatch cs q) → JobThere (at (cross_of (walks mismatch values) cs) q)
     there-cross no_strategies [] a l h = no_ports

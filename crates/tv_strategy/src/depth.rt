@@ -1,5 +1,5 @@
 ghost use Rattle.std.specs.Prelude.{◌≡◌, ◌<◌, ◌^◌, ◌==◌, not, find};
-ghost use Rattle.tv_value.specs.Strategies.{cross, dot};
+ghost use Rattle.tv_value.specs.Strategies.{cross, dot, prefix};
 ghost use Rattle.tv_value.specs.Views.{strategy_view};
 ghost use Rattle.tv_strategy.specs.Measures.{measured, unless, leaf_names, all_leaf_names, first_inside, depths_of};
 ghost use Rattle.tv_strategy.specs.Conditions.{Suits, number_of, sum_over};
@@ -8,19 +8,23 @@ ghost use Rattle.tv_strategy.specs.Views.{children_view, answer_view};
 use thiserror::Error;
 use tv_value::{Depths, Name, Tree, Trees};
 
-/// Two children of a dot differ in depth.
+/// Two children of a dot differ in depth, or a prefix node's right child is less deep than its left one.
 #[derive(Clone, Copy, Debug, PartialEq, Eq, Error)]
-#[error("the children of a dot have the depths {first} and {second}")]
+#[error("the children of a node have the depths {first} and {second}")]
 pub struct DotFault {
-    /// The depth of the dot's first child.
+    /// Whether the node is a prefix node.
+    pub prefix: bool,
+    /// The depth of the dot's first child, or of the prefix node's left one.
     pub first: u32,
-    /// The first other depth among its children, from left to right.
+    /// The first other depth among the dot's children, from left to right, or that of the prefix node's right child.
     pub second: u32,
 }
 
-/// The depth of a strategy whose leaves have these mismatches: a leaf's mismatch, the sum of a cross, the common depth of a dot.
+/// The depth of a strategy whose leaves have these mismatches: a leaf's mismatch, the sum of a cross, the common
+/// depth of a dot, the right child's of a prefix node.
 ///
-/// The fault is that of the first dot whose children differ, where children come before their node, from left to right.
+/// The fault is that of the first dot whose children differ, or prefix node whose right child is less deep than its left one, where
+/// children come before their node, from left to right.
 /// Takes no memory. Linear in the tree, with a look-up in `mismatch` for each leaf.
 pub fn depth_of(tree: &Tree, mismatch: &Depths) -> Result<u32, DotFault>
     requires { Suits mismatch.now (strategy_view tree.now) }
@@ -48,7 +52,28 @@ fn measure(tree: &Tree, mismatch: &Depths) -> Result<u32, DotFault>
         Tree::Leaf(name) => Ok(mismatch_at(mismatch, name)),
         Tree::Cross(trees) => sum_of(trees.as_slice(), mismatch),
         Tree::Dot(trees) => common_of(trees.as_slice(), mismatch),
+        Tree::Prefix(left, right) => right_of(left, right, mismatch),
     }
+}
+
+/// The depth of a prefix node.
+#[cycle(measure)]
+fn right_of(left: &Tree, right: &Tree, mismatch: &Depths) -> Result<u32, DotFault>
+    requires { sum_over (number_of mismatch.now) (leaf_names (prefix (strategy_view left.now)
+        (strategy_view right.now))) < 2 ^ 32 }
+    ensures { answer_view result ≡ measured (number_of mismatch.now)
+        (prefix (strategy_view left.now) (strategy_view right.now)) }
+{
+    let first = measure(left, mismatch)?;
+    let second = measure(right, mismatch)?;
+    if second < first {
+        return Err(DotFault {
+            prefix: true,
+            first,
+            second,
+        });
+    }
+    Ok(second)
 }
 
 /// The depth of a cross.
@@ -79,7 +104,11 @@ fn common_of(trees: &[Tree], mismatch: &Depths) -> Result<u32, DotFault>
     };
     let first = measure(first, mismatch)?;
     match other_than(first, others, mismatch)? {
-        Some(second) => Err(DotFault { first, second }),
+        Some(second) => Err(DotFault {
+            prefix: false,
+            first,
+            second,
+        }),
         None => Ok(first),
     }
 }

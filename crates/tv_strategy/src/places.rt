@@ -1,5 +1,5 @@
 ghost use Rattle.std.specs.Prelude.{◌≡◌, ◌≤◌, length, IfOk, IsOk, IsNone, ◌↔◌};
-ghost use Rattle.tv_value.specs.Strategies.{port, cross, dot};
+ghost use Rattle.tv_value.specs.Strategies.{port, cross, dot, prefix};
 ghost use Rattle.tv_value.specs.Views.{strategy_view};
 ghost use Rattle.tv_strategy.specs.Measures.{DotsAgree, strategy_depth};
 ghost use Rattle.tv_strategy.specs.Splits.{AddsSplit, joined};
@@ -16,7 +16,8 @@ use tv_value::{Copied, Depths, Name, NoMemory, Place, Sequence, Tree};
 /// Ports with a place each.
 pub type PortPlaces = Sequence<(Name, Place)>;
 
-/// The places of the ports' values that the job at a place is made of: a cross gives its first child the first indices, a dot gives each child all.
+/// The places of the ports' values that the job at a place is made of: a cross gives its first child the first indices, a dot gives each child all, and a
+/// prefix node gives its left child the first and its right child all.
 ///
 /// The ports come from left to right as the strategy has them. Want of memory is the one refusal, and may come at any length, since the names are copied into a list.
 /// Linear in the tree, with a look-up in `mismatch` and a copy of a name and a place for each leaf.
@@ -59,7 +60,30 @@ fn split_into(
         Tree::Leaf(name) => split_leaf(alloc, name, mismatch, indices, places),
         Tree::Cross(trees) => split_cross(alloc, trees.as_slice(), mismatch, indices, places),
         Tree::Dot(trees) => split_dot(alloc, trees.as_slice(), mismatch, indices, places),
+        Tree::Prefix(left, right) => split_prefix(alloc, left, right, mismatch, indices, places),
     }
+}
+
+/// The left child takes its own first indices, the right one all.
+#[cycle(split)]
+fn split_prefix(
+    alloc: Global,
+    left: &Tree,
+    right: &Tree,
+    mismatch: &Depths,
+    indices: &[u32],
+    places: &mut Vec<(Name, Place)>,
+) -> Result<usize, NoMemory>
+    requires agree { DotsAgree (number_of mismatch.now)
+        (prefix (strategy_view left.now) (strategy_view right.now)) }
+    requires deep { strategy_depth (number_of mismatch.now)
+        (prefix (strategy_view left.now) (strategy_view right.now)) ≤ length indices.now }
+    ensures { IfOk result (AddsSplit (number_of mismatch.now)
+        (prefix (strategy_view left.now) (strategy_view right.now)) indices.now places.old.items
+        places.new.items) }
+{
+    split_into(alloc, left, mismatch, indices, places)?;
+    split_into(alloc, right, mismatch, indices, places)
 }
 
 fn split_leaf(
@@ -128,7 +152,7 @@ fn split_dot(
 }
 
 /// The place of the job that is made of the values at these places of its ports, or `None` where two children of a dot
-/// have different places. Undoes `split`. Only the conditions name `mismatch`.
+/// have different places, or a prefix node's right place doesn't begin with its left one. Undoes `split`. Only the conditions name `mismatch`.
 ///
 /// Want of memory is the one refusal, and there is none where the dots agree and the place has at most 32 indices.
 /// Linear in the tree, with a look-up in `places` for each leaf and a copy of the part of the place that each node has.
@@ -160,7 +184,33 @@ fn join_tree(alloc: Global, tree: &Tree, places: &PortPlaces) -> Result<Option<P
         Tree::Leaf(name) => join_leaf(alloc, name, places),
         Tree::Cross(trees) => join_cross(alloc, trees.as_slice(), places),
         Tree::Dot(trees) => join_dot(alloc, trees.as_slice(), places),
+        Tree::Prefix(left, right) => join_prefix(alloc, left, right, places),
     }
+}
+
+/// The right child's place, where it begins with the left one's.
+#[cycle(join)]
+fn join_prefix(
+    alloc: Global,
+    left: &Tree,
+    right: &Tree,
+    places: &PortPlaces,
+) -> Result<Option<Place>, NoMemory>
+    ensures place { IfOk result (λ o. o ≡ joined (place_of places.now)
+        (prefix (strategy_view left.now) (strategy_view right.now))) }
+    ensures short { place_room (place_of places.now)
+        (prefix (strategy_view left.now) (strategy_view right.now)) ≤ 32 → IsOk result }
+{
+    let Some(front) = join_tree(alloc, left, places)? else {
+        return Ok(None);
+    };
+    let Some(place) = join_tree(alloc, right, places)? else {
+        return Ok(None);
+    };
+    if !front.prefix_of(&place) {
+        return Ok(None);
+    }
+    Ok(Some(place))
 }
 
 /// The place of a port, the empty one where none is listed.

@@ -1,5 +1,6 @@
 -- The way to a part and back, as the calls go it.
 use Rattle.std.proofs.Common.{◌≡◌, ℕ, zero, suc, ◌<◌, ◌≤◌, ◌^◌, arith, length, true, false, List, [], ◌∷◌, refl, sym, ap, ◌∙◌, subst, Option, Some, None, ◌⊎◌, inl, inr, get_or, le_of_suc-le-suc, not-suc-le-zero}
+use Rattle.std.specs.Prelude.{is_some}
 use Rattle.std.proofs.lemmas.Bool.{false≢true}
 use Rattle.tv_pool.specs.Pool.{Pool, item_in}
 use Rattle.tv_parts.specs.Partials.{Partial, wanting, item, growing, closed, Parts, part_at, known_at, whole_count, part_count}
@@ -29,6 +30,11 @@ nil-of (i ∷ l) h = absurd (never (length l) h)
   where
     never : (n : ℕ) → suc n ≡ 0 → ⊥
     never n h = omega arith
+
+-- what is there
+pub some-of : {A : Type 0} (o : Option A) → is_some o ≡ true → (x : A) × (o ≡ Some x)
+some-of None h = absurd (false≢true h)
+some-of (Some x) h = (x, refl)
 
 pub tall-place : (l : List ℕ) (i : ℕ) (q : List ℕ) (h : ℕ) → l ≡ i ∷ q → length l ≤ h → suc (length q) ≤ h
 tall-place l i q h e k = subst (λ x. length x ≤ h) e k

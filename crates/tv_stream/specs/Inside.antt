@@ -14,6 +14,8 @@ use Rattle.tv_stream.specs.declared.held.PartKind.{PartKind}
 use Rattle.tv_stream.specs.declared.held.PartKind.TheVariants.{Wanting as WantingKind, Growing as GrowingKind, Closed as ClosedKind, Item as ItemKind}
 use Rattle.tv_stream.specs.declared.refusals.ArriveRefused.{ArriveRefused}
 use Rattle.tv_stream.specs.declared.refusals.ArriveRefused.TheVariants.{NoSuchPlace, Occupied, NoMemory}
+use Rattle.tv_stream.specs.declared.refusals.NoArrival.{NoArrival}
+use Rattle.tv_stream.specs.declared.refusals.NoArrival.TheVariants.{NoSuchPlace as NoPlace, Occupied as PlaceTaken, NoMemory as NoRoom}
 use Rattle.tv_stream.specs.declared.refusals.CloseRefused.{CloseRefused}
 use Rattle.tv_stream.specs.declared.refusals.CloseRefused.TheVariants.{NoSuchPlace as NoPlaceToClose, AlreadyClosed, WrongLength, NoMemory as NoMemoryToClose}
 use Rattle.tv_stream.specs.Trees.{Marked, tree_at, least_whole}
@@ -157,6 +159,12 @@ module _ {T : Type 0} where
   RefusesArrivalIn spare q x r (Occupied y) = (y ≡ x) × (is_place q r ≡ true)
       × (known_at q r ≢ wanting)
   RefusesArrivalIn spare q x r (NoMemory y) = (y ≡ x) × CanArrive q r × (spare < length q)
+
+  -- a refusal that gives the item back
+  abbrev pub with_item : T → NoArrival → ArriveRefused T
+  with_item x NoPlace = NoSuchPlace x
+  with_item x PlaceTaken = Occupied x
+  with_item x NoRoom = NoMemory x
 
   pub record ClosesIn (m m' : ℕ → Option (Entry (Held T))) (s : ℕ) (q : List ℕ) (n : ℕ)
       (least : Option ℕ) : Type 0 where

@@ -1,5 +1,5 @@
 //! What changes a partial tree, from a node of it on.
-ghost use Rattle.std.specs.Prelude.{◌≡◌, ◌≢◌, ℕ, ◌+◌, ◌≤◌, ◌<◌, ◌^◌, ◌⊎◌, ◌==◌, if◌then◌else◌, Bool, Some, None, Option, length as count, [], IfOk, IfErr, OnOk, OnErr};
+ghost use Rattle.std.specs.Prelude.{◌≡◌, ◌≢◌, ℕ, ◌+◌, ◌≤◌, ◌<◌, ◌^◌, ◌⊎◌, ◌==◌, if◌then◌else◌, Bool, true, Some, None, Option, is_some, length as count, [], IfOk, IfErr, OnOk, OnErr};
 ghost use Rattle.tv_pool.specs.Pool.{IsLive, item_in, number_of, lies_at};
 ghost use Rattle.tv_stream.specs.nodes.Nodes.{part_in, body_in};
 ghost use Rattle.tv_stream.specs.nodes.Stands.{Spot, AreNodes, IsNode};
@@ -8,11 +8,11 @@ ghost use Rattle.tv_parts.specs.Changes.{arrive, close_at, CanArrive, CanClose};
 ghost use Rattle.tv_stream.specs.Trees.{Marked, tree_at, least_whole};
 ghost use Rattle.tv_stream.specs.Answers.{marked_item};
 ghost use Rattle.tv_stream.specs.NodeCounts.{new_nodes};
-ghost use Rattle.tv_stream.specs.Inside.{counts_with, counts_whole, counts_in, noted, is_zero, outer_least, InTree, Parted, ArrivesIn, RefusesArrivalIn, ClosesIn, RefusesCloseIn};
+ghost use Rattle.tv_stream.specs.Inside.{counts_with, counts_whole, counts_in, noted, is_zero, outer_least, with_item, InTree, Parted, ArrivesIn, RefusesArrivalIn, ClosesIn, RefusesCloseIn};
 
 use crate::held::{Held, Part};
 use crate::partial::Slot;
-use crate::refusals::{ArriveRefused, CloseRefused};
+use crate::refusals::{ArriveRefused, CloseRefused, NoArrival};
 use crate::{Stop, body, hang, seek, set_body};
 use tv_pool::{Link, NoMemory, Pool, Region};
 
@@ -89,41 +89,99 @@ fn note_part<T: Drop>(
     counts.is_whole()
 }
 
-/// An item arrives at a node.
+/// An item, which is taken, arrives at a node.
+#[inline(never)]
 fn settle<T: Drop>(
     pool: &mut Pool<Slot<T>>,
     node: Link,
-    item: T,
+    item: &mut Option<T>,
     marked: bool,
-) -> Result<u32, ArriveRefused<T>>
-    requires { (number : ℕ) × ((spots : ℕ → Option Spot)
+) -> Result<u32, NoArrival>
+    requires node { (number : ℕ) × ((spots : ℕ → Option Spot)
         × ((height : ℕ) × InTree (item_in pool.old number) spots (lies_at node) height)) }
-    ensures ok { IfOk result (λ least. (number : ℕ) → IsNode pool.old number (lies_at node)
+    requires item { is_some item.old ≡ true }
+    ensures ok { IfOk result (λ least. (number : ℕ) (x : T) → item.old ≡ Some x
+        → IsNode pool.old number (lies_at node)
         → ArrivesIn (item_in pool.old number) (item_in pool.new number) (lies_at node) []
-        (marked_item item marked) least) }
-    ensures refused { IfErr result (λ refused. (number : ℕ) (spots : ℕ → Option Spot) (height : ℕ)
-        → InTree (item_in pool.old number) spots (lies_at node) height
-        → RefusesArrivalIn pool.old.spare [] item (tree_at height (item_in pool.old number)
-        (lies_at node)) refused) }
+        (marked_item x marked) least) }
+    ensures refused { IfErr result (λ why. (number : ℕ) (spots : ℕ → Option Spot) (height : ℕ)
+        (x : T) → InTree (item_in pool.old number) spots (lies_at node) height
+        → RefusesArrivalIn pool.old.spare [] x (tree_at height (item_in pool.old number)
+        (lies_at node)) (with_item x why)) }
     ensures nodes { (number : ℕ) → count_in pool.new number ≡ count_in pool.old number }
     ensures unchanged { OnErr result (pool.new ≡ pool.old) }
+    ensures held { OnErr result (item.new ≡ item.old) }
     ensures kept { (number : ℕ) → IsNode pool.old number (lies_at node)
         → KeepsRegions pool.old pool.new number }
     ensures spare { pool.new.spare ≡ pool.old.spare }
 {
-    match &body(pool, node).part {
-        Part::Wanting => {
-            set_body(
-                pool,
-                node,
-                Held {
-                    marked,
-                    part: Part::Item(item),
-                },
-            );
-            Ok(0)
-        }
-        _ => Err(ArriveRefused::Occupied(item)),
+    if let Part::Wanting = &body(pool, node).part {
+        let Some(item) = item.take() else {
+            unreachable!();
+        };
+        set_body(
+            pool,
+            node,
+            Held {
+                marked,
+                part: Part::Item(item),
+            },
+        );
+        return Ok(0);
+    }
+    Err(NoArrival::Occupied)
+}
+
+/// An item, which is taken, arrives at a place inside a node. Answers the least length of a prefix of the place that is whole by it. It
+/// goes on inside by itself, a place may have 512 indices, and so little stands on its stack: the item isn't there.
+fn settle_in<T: Drop>(
+    pool: &mut Pool<Slot<T>>,
+    region: &Region,
+    node: Link,
+    place: &[u32],
+    item: &mut Option<T>,
+    marked: bool,
+) -> Result<u32, NoArrival>
+    requires live { IsLive pool.old region.now }
+    requires node { (spots : ℕ → Option Spot)
+        × ((height : ℕ) × (InTree (item_in pool.old (number_of region.now)) spots (lies_at node)
+        height × (count place.now ≤ height))) }
+    requires short { count place.now < 2 ^ 32 }
+    requires item { is_some item.old ≡ true }
+    ensures ok { IfOk result (λ least. (x : T) → item.old ≡ Some x
+        → ArrivesIn (item_in pool.old (number_of region.now))
+        (item_in pool.new (number_of region.now)) (lies_at node) place.now (marked_item x marked)
+        least) }
+    ensures refused { IfErr result (λ why. (spots : ℕ → Option Spot) (height : ℕ) (x : T)
+        → InTree (item_in pool.old (number_of region.now)) spots (lies_at node) height
+        → count place.now ≤ height → RefusesArrivalIn pool.old.spare place.now x
+        (tree_at height (item_in pool.old (number_of region.now)) (lies_at node))
+        (with_item x why)) }
+    ensures nodes { OnOk result ((spots : ℕ → Option Spot) (height : ℕ)
+        → InTree (item_in pool.old (number_of region.now)) spots (lies_at node) height
+        → count place.now ≤ height → count_in pool.new (number_of region.now)
+        ≤ count_in pool.old (number_of region.now)
+        + new_nodes place.now (tree_at height (item_in pool.old (number_of region.now))
+        (lies_at node))) }
+    ensures unchanged { OnErr result (pool.new.regions ≡ pool.old.regions) }
+    ensures held { OnErr result (item.new ≡ item.old) }
+    ensures kept { KeepsRegions pool.old pool.new (number_of region.now) }
+    ensures spare { pool.old.spare ≤ pool.new.spare + count place.now }
+{
+    let Some((&index, rest)) = place.split_first() else {
+        return settle(pool, node, item, marked);
+    };
+    if !body(pool, node).has_place(index) {
+        return Err(NoArrival::NoSuchPlace);
+    }
+    let Ok(part) = part_or_new(pool, region, node, index, place.len()) else {
+        return Err(NoArrival::NoMemory);
+    };
+    let least = settle_in(pool, region, part, rest, item, marked)?;
+    if note_part(pool, node, index, least == 0, marked) {
+        Ok(0)
+    } else {
+        Ok(least + 1)
     }
 }
 
@@ -158,24 +216,18 @@ pub fn arrive_in<T: Drop>(
     ensures kept { KeepsRegions pool.old pool.new (number_of region.now) }
     ensures spare { pool.old.spare ≤ pool.new.spare + count place.now }
 {
-    let Some((&index, rest)) = place.split_first() else {
-        return settle(pool, node, item, marked);
-    };
-    if !body(pool, node).has_place(index) {
-        return Err(ArriveRefused::NoSuchPlace(item));
-    }
-    let Ok(part) = part_or_new(pool, region, node, index, place.len()) else {
-        return Err(ArriveRefused::NoMemory(item));
-    };
-    let least = arrive_in(pool, region, part, rest, item, marked)?;
-    if note_part(pool, node, index, least == 0, marked) {
-        Ok(0)
-    } else {
-        Ok(least + 1)
+    let mut held = Some(item);
+    match settle_in(pool, region, node, place, &mut held, marked) {
+        Ok(least) => Ok(least),
+        Err(why) => match held {
+            Some(item) => Err(why.with(item)),
+            None => unreachable!(),
+        },
     }
 }
 
 /// The list that stands at a node, or may, is closed with a length.
+#[inline(never)]
 fn end<T: Drop>(
     pool: &mut Pool<Slot<T>>,
     node: Link,

@@ -1,4 +1,6 @@
 //! Why a partial tree refuses a call.
+ghost use Rattle.std.specs.Prelude.{◌≡◌};
+ghost use Rattle.tv_stream.specs.Inside.{with_item};
 
 use thiserror::Error;
 
@@ -14,6 +16,27 @@ pub enum ArriveRefused<T> {
     /// There was no memory for the nodes.
     #[error("out of memory")]
     NoMemory(T),
+}
+
+/// The same without the item.
+#[derive(Clone, Copy, Debug)]
+pub(crate) enum NoArrival {
+    NoSuchPlace,
+    Occupied,
+    NoMemory,
+}
+
+impl NoArrival {
+    /// With the item, which is given back.
+    pub(crate) fn with<T>(self, item: T) -> ArriveRefused<T>
+        ensures { result ≡ with_item item self }
+    {
+        match self {
+            NoArrival::NoSuchPlace => ArriveRefused::NoSuchPlace(item),
+            NoArrival::Occupied => ArriveRefused::Occupied(item),
+            NoArrival::NoMemory => ArriveRefused::NoMemory(item),
+        }
+    }
 }
 
 /// Why a list can't be closed.

@@ -65,6 +65,12 @@ const PASSED: Worked = Worked {
     line: "{\"outputs\":{\"out\":{\"error\":{\"at\":\"r[]\",\"depth\":1,\"from\":[],\"why\":\"range input 1 is no number\"}}},\"totals\":{\"attempts\":1,\"bounced\":0,\"failed\":1,\"jobs\":1}}\n",
 };
 
+/// Two texts, and all of a list of lists below each of them.
+const PREFIXED: Worked = Worked {
+    document: r#"{"taverna":2,"main":"m","flows":{"m":{"inputs":{"x":1,"y":2},"steps":{"p":{"inputs":{"a":{"depth":0,"from":{"input":"x"}}},"outputs":{"o":0},"jobs":2,"activities":[{"service":"echo"}]},"q":{"inputs":{"a":{"depth":0,"from":{"input":"y"}}},"outputs":{"o":0},"jobs":4,"activities":[{"service":"echo"}]},"c":{"inputs":{"a":{"depth":0,"from":{"step":"p","port":"o"}},"b":{"depth":0,"from":{"step":"q","port":"o"}}},"outputs":{"o":0},"strategy":{"prefix":["a","b"]},"activities":[{"service":"concat"}]}},"outputs":{"out":{"step":"c","port":"o"}}}},"inputs":{"x":["a","b"],"y":[["1","2"],["3"],["4"]]}}"#,
+    line: "{\"outputs\":{\"out\":[[\"a1\",\"a2\"],[\"b3\"]]},\"totals\":{\"attempts\":9,\"bounced\":0,\"failed\":0,\"jobs\":9}}\n",
+};
+
 /// Two inputs as one list.
 const MERGE: Worked = Worked {
     document: r#"{"taverna":1,"main":"m","flows":{"m":{"inputs":{"x":0,"y":0},"steps":{"e":{"inputs":{"a":{"depth":1,"from":{"merge":[{"input":"x"},{"input":"y"}]}}},"outputs":{"o":1},"activities":[{"service":"echo"}]}},"outputs":{"out":{"step":"e","port":"o"}}}},"inputs":{"x":"a","y":"b"}}"#,
@@ -302,6 +308,21 @@ static NOTED: [(Worked, &str, &str); 3] = [
     ),
 ];
 
+static PREFIX_NODES: [(Worked, &str, &str); 2] = [
+    // A prefix node pairs a text with what stands below it, whichever came first, and lists come out once their lengths and the texts
+    // above them are known: lists first, and jobs first.
+    (
+        PREFIXED,
+        "settle settle settle settle settle settle settle hand hand hand hand hand hand ask:2/0/0 accept:0 name:6 ask:0/0/0 accept:1 name:6 name:7 settle settle ask:3/0/0 accept:2 name:7 ask:4/0/0 accept:3 ask:5/0/0 accept:4 name:8 ask:1/0/0 accept:5 name:8 name:9 settle settle rest",
+        "true true true true true true false 2/0/0 3/0/0 4/0/0 5/0/0 0/0/0 1/0/0 Settled { good: true } none Settled { good: true } c[0,0] none true false Settled { good: true } c[0,1] Settled { good: true } Settled { good: true } none Settled { good: true } c[1,0] none true false ",
+    ),
+    (
+        PREFIXED,
+        "hand hand hand hand hand hand ask:2/0/0 accept:0 name:6 ask:0/0/0 accept:1 name:6 ask:3/0/0 accept:2 name:7 ask:4/0/0 accept:3 ask:5/0/0 accept:4 name:8 ask:1/0/0 accept:5 name:8 name:9 settle settle settle settle settle settle settle settle settle rest",
+        "2/0/0 3/0/0 4/0/0 5/0/0 0/0/0 1/0/0 Settled { good: true } none Settled { good: true } c[0,0] Settled { good: true } c[0,1] Settled { good: true } Settled { good: true } none Settled { good: true } c[1,0] none true true true true true true true true false ",
+    ),
+];
+
 static LISTS_AND_NODES: [(Worked, &str, &str); 2] = [
     // A nested job is noted once its instance has ended, and no job inside an instance is.
     (
@@ -375,6 +396,11 @@ fn inner_faults_as_due(rt: HostRuntime) -> Result<(), Fail> {
 #[test]
 fn noted_as_due(rt: HostRuntime) -> Result<(), Fail> {
     say_what_is_due(&rt, rt.alloc(), &NOTED)
+}
+
+#[test]
+fn prefix_nodes_as_due(rt: HostRuntime) -> Result<(), Fail> {
+    say_what_is_due(&rt, rt.alloc(), &PREFIX_NODES)
 }
 
 #[test]

@@ -4,11 +4,8 @@
 //! - `stream`: partial trees, event by event
 //! - `strategies`: a dot, by which places split and join
 //! - `matching`: a matcher that is told event by event
-//! - `cells`: pieces of cells
 #![tactic(auto)]
 
-#[cfg(test)]
-mod cells;
 #[cfg(test)]
 mod matching;
 #[cfg(test)]

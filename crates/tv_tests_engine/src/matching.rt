@@ -9,7 +9,7 @@ ghost use Rattle.tv_match.specs.Scripts.{IsScript};
 use crate::strategies::{ones, pair};
 use std::alloc::Global;
 use std::test::Fail;
-use tv_match::{Kind, Matcher, Told, Tolds};
+use tv_match::{Matcher, Told, Tolds};
 use tv_value::{Depths, NoMemory, Place, Sequence, Tree};
 
 /// A strategy with the numbers of its ports, and what is told in turn.
@@ -95,16 +95,6 @@ fn shorter_beside_longer(alloc: Global) -> Result<Script, NoMemory>
     })
 }
 
-fn say(text: &mut String, place: &[u32], kind: Kind) -> Result<(), Fail> {
-    match kind {
-        Kind::Job { faulty: false } => write!(text, "job {place:?};")?,
-        Kind::Job { faulty: true } => write!(text, "faulty job {place:?};")?,
-        Kind::Closed(length) => write!(text, "list {place:?} {length};")?,
-        Kind::Passed(leaf) => write!(text, "passed {place:?} {leaf};")?,
-    }
-    Ok(())
-}
-
 /// A matcher of the script's strategy, which can be told the script.
 fn start(alloc: Global, script: &Script) -> Result<Matcher, NoMemory>
     requires { IsScript (strategy_view script.now.tree) script.now.mismatch script.now.tolds }
@@ -128,7 +118,7 @@ fn pass_all(matcher: &mut Matcher, text: &mut String) -> Result<(), Fail>
         let Some((place, kind)) = matcher.first() else {
             break;
         };
-        say(text, place, kind)?;
+        write!(text, "{place:?} {kind:?};")?;
         matcher.pass();
     }
     Ok(())
@@ -181,19 +171,20 @@ fn tell_script(matcher: &mut Matcher, script: &Script, text: &mut String) -> Res
     tell_all(matcher, script.tolds.as_slice(), text)
 }
 
-fn tell_one_by_one(alloc: Global, script: &Script, text: &mut String) -> Result<(), Fail>
-    requires { IsScript (strategy_view script.now.tree) script.now.mismatch script.now.tolds }
-{
-    let mut matcher = start(alloc, script)?;
-    tell_script(&mut matcher, script, text)
+/// What is said of a list of two, and beside it a list of one, which holds a fault.
+fn tell_one_by_one(alloc: Global, text: &mut String) -> Result<(), Fail> {
+    let script = shorter_beside_longer(alloc)?;
+    let mut matcher = start(alloc, &script)?;
+    tell_script(&mut matcher, &script, text)
 }
 
 #[test]
 fn a_dot_goes_on_to_the_shorter_list(rt: HostRuntime) -> Result<(), Fail> {
-    let alloc = rt.alloc();
-    let script = shorter_beside_longer(alloc)?;
-    let mut text = String::new(alloc);
-    tell_one_by_one(alloc, &script, &mut text)?;
-    assert_eq!(rt; text.as_str(), "///faulty job [0];/list [] 1;/");
+    let mut text = String::new(rt.alloc());
+    tell_one_by_one(rt.alloc(), &mut text)?;
+    assert_eq!(rt;
+        text.as_str(),
+        "///[0] Job { faulty: true };/[] Closed(1);/"
+    );
     Ok(())
 }

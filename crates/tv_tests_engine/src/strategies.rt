@@ -3,7 +3,7 @@ ghost use Rattle.std.specs.Prelude.{◌≡◌, ◌++◌, ◌∷◌, [], IfOk, On
 ghost use Rattle.tv_value.specs.Strategies.{dot, no_strategies, port, strategy};
 ghost use Rattle.tv_value.specs.Views.{strategy_view};
 
-use std::alloc::Global;
+use std::alloc::{AllocError, Global};
 use std::fmt::Write;
 use std::test::Fail;
 use tv_strategy::{join, split};
@@ -51,37 +51,46 @@ pub(crate) fn ones(alloc: Global) -> Result<Depths, NoMemory>
     Ok(Sequence::of(depths))
 }
 
+fn say_parts(text: &mut String, parts: &[(Name, Place)]) -> Result<(), AllocError> {
+    for (name, part) in parts {
+        write!(text, "{} {:?};", name.as_str(), part.as_slice())?;
+    }
+    Ok(())
+}
+
 /// The places of the leaves that a place splits into, and the place that they join to.
 fn split_and_joined(
     alloc: Global,
     tree: &Tree,
     mismatch: &Depths,
     place: &Place,
-) -> Result<String, Fail>
+    text: &mut String,
+) -> Result<(), Fail>
     requires tree { strategy_view tree.now
         ≡ dot (strategy (port (97 ∷ [])) (strategy (port (98 ∷ [])) no_strategies)) }
     requires mismatch { mismatch.now ≡ (97 ∷ [], 1) ∷ (98 ∷ [], 1) ∷ [] }
     requires place { place.now ≡ 3 ∷ [] }
 {
-    let mut text = String::new(alloc);
     let places = split(alloc, tree, mismatch, place)?;
-    let joined = join(alloc, tree, mismatch, &places)?;
-    for (name, part) in places.as_slice() {
-        write!(text, "{} {:?};", name.as_str(), part.as_slice())?;
-    }
-    if let Some(whole) = joined {
+    say_parts(text, places.as_slice())?;
+    if let Some(whole) = join(alloc, tree, mismatch, &places)? {
         write!(text, "{:?}", whole.as_slice())?;
     }
-    Ok(text)
+    Ok(())
+}
+
+/// What is said of a place of a dot.
+fn of_a_dot(alloc: Global, text: &mut String) -> Result<(), Fail> {
+    let tree = pair(alloc, "a", "b")?;
+    let mismatch = ones(alloc)?;
+    let place = Place::of(alloc, &[3])?;
+    split_and_joined(alloc, &tree, &mismatch, &place, text)
 }
 
 #[test]
 fn a_place_splits_and_joins(rt: HostRuntime) -> Result<(), Fail> {
-    let alloc = rt.alloc();
-    let tree = pair(alloc, "a", "b")?;
-    let mismatch = ones(alloc)?;
-    let place = Place::of(alloc, &[3])?;
-    let text = split_and_joined(alloc, &tree, &mismatch, &place)?;
+    let mut text = String::new(rt.alloc());
+    of_a_dot(rt.alloc(), &mut text)?;
     assert_eq!(rt; text.as_str(), "a [3];b [3];[3]");
     Ok(())
 }

@@ -18,7 +18,7 @@ pub(crate) const ONE_TEXT_LINE: &str =
     "{\"outputs\":{\"out\":\"A\"},\"totals\":{\"attempts\":1,\"bounced\":0,\"failed\":0,\"jobs\":1}}\n";
 
 pub(crate) const USAGE: &str =
-    "taverna: usage: taverna run [--workers N] | check | trace | lineage --of PORT[PLACE] | forward --of PORT[PLACE] | gen N [--workers W]\n";
+    "taverna: usage: taverna run [--workers N] | check | trace | lineage --of PORT[PLACE] | forward --of PORT[PLACE] | gen N [--workers W] | upgrade\n";
 
 /// How the three streams of a run behave: the most bytes of one call, and the number of the call that fails, 0 for none.
 #[derive(Clone, Copy, Debug)]

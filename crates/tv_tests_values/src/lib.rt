@@ -1,15 +1,15 @@
-//! Tests of what is made of texts: documents as JSON, services, verdicts on outcomes, and generated documents.
+//! Tests of what is made of texts: services, verdicts on outcomes, generated documents, and floats.
 //!
 //! - `values`: values of tests, as they are written
-//! - `documents`: documents that are read, copied and written again
 //! - `services`: the local services, case by case
 //! - `scripted`: a gate that answers by a script
 //! - `judging`: outcomes against the outputs that are due
 //! - `generated`: generated documents against their texts
+//! - `floats`: floats as JSON
 #![tactic(auto)]
 
 #[cfg(test)]
-mod documents;
+mod floats;
 #[cfg(test)]
 mod generated;
 #[cfg(test)]

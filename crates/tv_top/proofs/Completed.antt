@@ -4,7 +4,7 @@ use Rattle.std.proofs.Common.{ap, inl, inr, sym}
 use Rattle.tv_top.specs.Answers.{Answer}
 use Rattle.tv_top.specs.Headline.{Cause, IsComplete, Leaving, Sink, Source, status_of}
 use Rattle.tv_top.specs.declared.status.Status.{Status}
-use Rattle.tv_top.specs.declared.status.Status.TheVariants.{Done, Usage, ReadFault, TooLong, NotJson, Form, Check, NoSuchElement, WriteFault, NoMemory}
+use Rattle.tv_top.specs.declared.status.Status.TheVariants.{Done, Usage, ReadFault, TooLong, NotJson, Form, Check, NotBuilt, NoSuchElement, WriteFault, NoMemory}
 
 pub completed :
     (left : Leaving) (answer : List ℕ → Answer) (s : Source) (out : Sink) (status : Status) → Cause left answer s out status
@@ -16,6 +16,7 @@ completed left answer s out TooLong h = λ bytes e sound written. inl (sym (ap s
 completed left answer s out NotJson h = λ bytes e sound written. inl (sym (ap status_of (h bytes e).0.1))
 completed left answer s out Form h = λ bytes e sound written. inl (sym (ap status_of (h bytes e).0.1))
 completed left answer s out Check h = λ bytes e sound written. inl (sym (ap status_of (h bytes e).0.1))
+completed left answer s out NotBuilt h = λ bytes e sound written. inl (sym (ap status_of (h bytes e).0.1))
 completed left answer s out NoSuchElement h = λ bytes e sound written. inl (sym (ap status_of (h bytes e).0.1))
 completed left answer s out WriteFault h = λ bytes e sound written. absurd (written h.0)
 completed left answer s out NoMemory h = λ bytes e sound written. inr refl

@@ -3,7 +3,7 @@ use Rattle.std.specs.Prelude.{refl}
 use Rattle.std.specs.Fmt.{digits}
 use Rattle.json.specs.Print.{escape_byte}
 use Rattle.tv_words.proofs.Literals.{words_on_literals}
-use Rattle.tv_top.specs.Worked.{RunsOneText, RunsChain, RunsFailure, RunsCross, ChecksCross, ChecksChain, RefusesCircle, RefusesNoDocument, RefusesDepth, TakesCommands, TakesNothingElse, AsksChain, AsksFailure, AsksAttempts, AsksNoCheck, AsksGenerated, AsksForward, AsksLineage, LineageOfCross, LineageOfFailure, ForwardOfCross, RefusesElements, RunsNestedFlow, RunsGenerated, TracesAttempts, TracesChain, TracesFailure}
+use Rattle.tv_top.specs.Worked.{RunsOneText, RunsChain, RunsFailure, RunsCross, ChecksCross, ChecksChain, RefusesCircle, RefusesNoDocument, RefusesDepth, TakesCommands, TakesNothingElse, AsksChain, AsksFailure, AsksAttempts, AsksNoCheck, AsksGenerated, AsksForward, AsksLineage, LineageOfCross, LineageOfFailure, ForwardOfCross, RefusesElements, RunsNestedFlow, RunsGenerated, TracesAttempts, TracesChain, TracesFailure, UpgradesOneText, RefusesLoop}
 
 pub runs_one_text : RunsOneText
 unfolding digits escape_byte
@@ -43,7 +43,7 @@ refuses_depth = (refl, refl)
 
 pub takes_commands : TakesCommands
 unfolding words_on_literals
-takes_commands = (refl, refl, refl, refl, refl, refl, refl)
+takes_commands = (refl, refl, refl, refl, refl, refl, refl, refl)
 
 pub takes_nothing_else : TakesNothingElse
 unfolding words_on_literals
@@ -112,3 +112,11 @@ asks_lineage = (refl, refl)
 pub asks_forward : AsksForward
 unfolding digits escape_byte
 asks_forward = (refl, refl)
+
+pub upgrades_one_text : UpgradesOneText
+unfolding digits escape_byte
+upgrades_one_text = refl
+
+pub refuses_loop : RefusesLoop
+unfolding digits escape_byte
+refuses_loop = (refl, refl, refl)

@@ -1,22 +1,24 @@
 -- From the text to print, or the refusal, to the status: what the top calls promise.
-use Rattle.std.specs.Prelude.{Err, List, None, OnErr, OnOk, Ok, Option, Result, Some, refl, ℕ, ◌+◌, ◌↔◌, ◌≡◌, ◌≢◌}
+use Rattle.std.specs.Prelude.{Bool, Err, IfOk, IsUtf8, List, None, OnErr, OnOk, Ok, Option, Result, Some, refl, ℕ, ◌+◌, ◌↔◌, ◌≡◌, ◌≢◌}
 use Rattle.std.proofs.Common.{subst, sym, ◌∙◌}
-use Rattle.tv_value.specs.Values.{Text}
+use Rattle.tv_value.specs.Values.{Name, Text}
 use Rattle.tv_gate.specs.Calls.{Call}
+use Rattle.tv_gate.specs.Outcomes.{Giving}
 use Rattle.tv_io.specs.ReadOf.{TakesAtMost}
 use Rattle.tv_io.specs.declared.sink.Sink.{Ghosts as SinkGhosts}
 use Rattle.tv_io.specs.declared.source.Source.{Ghosts as SourceGhosts}
-use Rattle.tv_top.specs.Answers.{Answer, byte_limit}
+use Rattle.tv_top.specs.Answers.{Answer, answer_of, byte_limit}
 use Rattle.tv_top.specs.Asked.{ended, refusal_line, refusal_status}
 use Rattle.tv_top.specs.Asking.{IsAsked, IsAskedFor, ToldCalls}
-use Rattle.tv_top.specs.Headline.{Cause, IsAnswered, IsComplete, IsLine, IsSaid, Leaving, RefusalCause, Sink, Source, left_by, sink_told, source_told}
+use Rattle.tv_top.specs.Headline.{Cause, IsAnswered, IsComplete, IsLine, IsSaid, Leaving, RefusalCause, Sink, Source, left_by, read_whole, sink_told, source_told}
 use Rattle.tv_top.specs.Lines.{fault_line}
-use Rattle.tv_top.specs.Promised.{IsFinished, IsPromised, OfSource}
-use Rattle.tv_top.specs.Words.{Command, ReadsNothing, check, forward, gen, lineage, run, trace}
+use Rattle.tv_top.specs.Promised.{IsFinished, IsPromised, IsWritten, OfSource, Upgrades}
+use Rattle.tv_top.specs.Words.{Command, ReadsNothing, check, forward, gen, lineage, run, trace, upgrade}
 use Rattle.tv_top.specs.declared.refusal.Refusal.{Refusal}
 use Rattle.tv_top.specs.declared.status.Status.{Status}
-use Rattle.tv_top.specs.declared.status.Status.TheVariants.{Done, Usage, ReadFault, TooLong, NotJson, Form, Check, NoSuchElement, WriteFault, NoMemory}
+use Rattle.tv_top.specs.declared.status.Status.TheVariants.{Done, Usage, ReadFault, TooLong, NotJson, Form, Check, NotBuilt, NoSuchElement, WriteFault, NoMemory}
 use Rattle.tv_top.proofs.Completed.{completed}
+use Rattle.tv_top.proofs.Upgrading.{upgrade-read}
 
 -- ---- facts of what a command reads
 
@@ -28,6 +30,7 @@ of-source (Some check) s P Q f h = f s h
 of-source (Some trace) s P Q f h = f s h
 of-source (Some (lineage p q)) s P Q f h = f s h
 of-source (Some (forward p q)) s P Q f h = f s h
+of-source (Some upgrade) s P Q f h = f s h
 of-source (Some (gen n)) s P Q f h = λ t same. f t (h t same)
 
 -- one that tells nothing
@@ -41,6 +44,7 @@ some-source (Some check) s P h = (s, h)
 some-source (Some trace) s P h = (s, h)
 some-source (Some (lineage p q)) s P h = (s, h)
 some-source (Some (forward p q)) s P h = (s, h)
+some-source (Some upgrade) s P h = (s, h)
 some-source (Some (gen n)) s P h = (still, h still refl)
 
 -- ---- causes and lines
@@ -54,6 +58,7 @@ module _ (left : Leaving) (answer : List ℕ → Answer) (s : Source) (out err :
   refusal-cause NotJson h = h
   refusal-cause Form h = h
   refusal-cause Check h = h
+  refusal-cause NotBuilt h = h
   refusal-cause NoSuchElement h = h
   refusal-cause WriteFault h = absurd h
   refusal-cause NoMemory h = tt
@@ -67,6 +72,7 @@ module _ (left : Leaving) (answer : List ℕ → Answer) (s : Source) (out err :
   cause-of (Ok text) NotJson a w = absurd w
   cause-of (Ok text) Form a w = absurd w
   cause-of (Ok text) Check a w = absurd w
+  cause-of (Ok text) NotBuilt a w = absurd w
   cause-of (Ok text) NoSuchElement a w = absurd w
   cause-of (Ok text) WriteFault a w = (w.0, λ bytes e. (text, (a bytes e).0, (a bytes e).1, w.1))
   cause-of (Ok text) NoMemory a w = absurd w
@@ -81,6 +87,7 @@ module _ (left : Leaving) (answer : List ℕ → Answer) (s : Source) (out err :
   said-of (Ok text) NotJson a w n = absurd w
   said-of (Ok text) Form a w n = absurd w
   said-of (Ok text) Check a w n = absurd w
+  said-of (Ok text) NotBuilt a w n = absurd w
   said-of (Ok text) NoSuchElement a w n = absurd w
   said-of (Ok text) WriteFault a w n = (fault_line WriteFault, refl, w.2)
   said-of (Ok text) NoMemory a w n = absurd w
@@ -102,6 +109,7 @@ module _ (o : Option Command) (out err : Sink) where
   usage-of (Ok text) NotJson w u m = absurd w
   usage-of (Ok text) Form w u m = absurd w
   usage-of (Ok text) Check w u m = absurd w
+  usage-of (Ok text) NotBuilt w u m = absurd w
   usage-of (Ok text) NoSuchElement w u m = absurd w
   usage-of (Ok text) WriteFault w u m = (λ e. absurd (cc e), λ n. absurd (cc ((u (λ e. cc e)).1 n)))
   usage-of (Ok text) NoMemory w u m = absurd w
@@ -117,6 +125,7 @@ module _ (o : Option Command) (out err : Sink) where
   silent-of old new (Ok text) NotJson w h d f = absurd w
   silent-of old new (Ok text) Form w h d f = absurd w
   silent-of old new (Ok text) Check w h d f = absurd w
+  silent-of old new (Ok text) NotBuilt w h d f = absurd w
   silent-of old new (Ok text) NoSuchElement w h d f = absurd w
   silent-of old new (Ok text) WriteFault w h d f = absurd (f refl)
   silent-of old new (Ok text) NoMemory w h d f = absurd w
@@ -128,23 +137,41 @@ module _ (o : Option Command) (out err : Sink) where
   unsaid-of old new left answer s (Ok text) status a w h e = h e
   unsaid-of old new left answer s (Err r) status a w h e = absurd (isnt-done left answer s out err r a (sym w.0 ∙ e))
 
+-- ---- what `upgrade` writes
+
+module _ (gives : Giving) (knows : Name → Bool) (s : Source) (out err : Sink) where
+  -- of a text that was written whole
+  upgrade-sent : (x : Result Text Refusal) (status : Status)
+      → IsAnswered read_whole (answer_of gives knows (Some upgrade)) s x → IsFinished x out err status → IfOk x (λ t. IsUtf8 t)
+      → status ≡ Done → Upgrades knows s out
+  upgrade-sent (Ok text) status a w u done =
+      λ bytes e. (text, subst (IsWritten text out err) done w, upgrade-read gives knows bytes text u (a bytes e).0)
+  upgrade-sent (Err r) status a w u done = absurd (isnt-done read_whole (answer_of gives knows (Some upgrade)) s out err r a (sym w.0 ∙ done))
+
+  upgraded-of : (o : Option Command) (x : Result Text Refusal) (status : Status)
+      → OfSource o s (λ s. IsAnswered (left_by o) (answer_of gives knows o) s x) → IsFinished x out err status → IfOk x (λ t. IsUtf8 t)
+      → o ≡ Some upgrade → status ≡ Done → Upgrades knows s out
+  upgraded-of o x status a w u e done =
+      upgrade-sent x status (subst (λ p. OfSource p s (λ s. IsAnswered (left_by p) (answer_of gives knows p) s x)) e a) w u done
+
 -- ---- the promise
 
-pub promised : {S K E : Type 0} (of_source : SourceGhosts S) (of_out : SinkGhosts K) (of_err : SinkGhosts E) (o : Option Command)
-    (answer : List ℕ → Answer) (source source_after : S) (out out_after : K) (err err_after : E) (status : Status)
+pub promised : {S K E : Type 0} (of_source : SourceGhosts S) (of_out : SinkGhosts K) (of_err : SinkGhosts E) (gives : Giving)
+    (knows : Name → Bool) (o : Option Command) (source source_after : S) (out out_after : K) (err err_after : E) (status : Status)
     (x : Result Text Refusal)
-    → OfSource o (source_told of_source source source_after) (λ s. IsAnswered (left_by o) answer s x)
+    → OfSource o (source_told of_source source source_after) (λ s. IsAnswered (left_by o) (answer_of gives knows o) s x)
     → (ended x ≢ NoMemory → ((ended x ≡ Usage) ↔ (o ≡ None)))
     → TakesAtMost (byte_limit + 1) (of_source.left source) (of_source.left source_after)
     → (ReadsNothing o → source_after ≡ source)
     → IsFinished x (sink_told of_out out out_after) (sink_told of_err err err_after) status
-    → OnErr x (out_after ≡ out) → OnOk x (status ≡ Done → err_after ≡ err)
-    → IsPromised of_source of_out of_err o answer source source_after out out_after err err_after status
-promised of_source of_out of_err o answer source source_after out out_after err err_after status x a u t n w silent unsaid =
+    → OnErr x (out_after ≡ out) → OnOk x (status ≡ Done → err_after ≡ err) → IfOk x (λ t. IsUtf8 t)
+    → IsPromised of_source of_out of_err gives knows o source source_after out out_after err err_after status
+promised of_source of_out of_err gives knows o source source_after out out_after err err_after status x a u t n w silent unsaid utf8 =
     let s = source_told of_source source source_after in
     let k = sink_told of_out out out_after in
     let l = sink_told of_err err err_after in
     let left = left_by o in
+    let answer = answer_of gives knows o in
     let some = some-source o s (λ s. IsAnswered left answer s x) a in
     let cause = of-source o s (λ s. IsAnswered left answer s x) (λ s. Cause left answer s k status)
     (λ s h. cause-of left answer s k l x status h w) a in
@@ -156,6 +183,7 @@ promised of_source of_out of_err o answer source source_after out out_after err 
       taken = t;
       unread = n;
       silent = silent-of o k l out out_after x status w silent;
+      upgraded = upgraded-of gives knows s k l o x status a w utf8;
       unsaid = unsaid-of o k l err err_after left answer some.0 x status some.1 w unsaid;
       said = λ d. of-source o s (λ s. IsAnswered left answer s x) (λ s. IsSaid answer s l status)
           (λ s h. said-of left answer s k l x status h w d) a;
@@ -171,6 +199,7 @@ asked-of asks s before after out err (Ok text) TooLong w h = absurd w
 asked-of asks s before after out err (Ok text) NotJson w h = absurd w
 asked-of asks s before after out err (Ok text) Form w h = absurd w
 asked-of asks s before after out err (Ok text) Check w h = absurd w
+asked-of asks s before after out err (Ok text) NotBuilt w h = absurd w
 asked-of asks s before after out err (Ok text) NoSuchElement w h = absurd w
 asked-of asks s before after out err (Ok text) WriteFault w h = h
 asked-of asks s before after out err (Ok text) NoMemory w h = absurd w

@@ -15,12 +15,13 @@ use Rattle.tv_check.specs.RunViews.{run_view}
 use Rattle.tv_check.specs.declared.run.CheckedRun.{CheckedRun}
 use Rattle.tv_io.specs.ReadOf.{IsReadWhole}
 use Rattle.tv_model.specs.RowsOfSize.{generated}
-use Rattle.tv_top.specs.Words.{Command, run, check, trace, lineage, forward, gen}
-use Rattle.tv_top.specs.Answers.{Answer, Reading, StatusLine, always, answer_of, answer_to, answer_to_reading, byte_limit, forward_text, generated_reading, json_of, lineage_text, reading_for, reading_of, reading_of_json, unless_absent, unless_complaint, unless_misformed}
+use Rattle.tv_top.specs.Words.{Command, run, check, trace, lineage, forward, upgrade, gen}
+use Rattle.tv_top.specs.Built.{is_unbuilt}
+use Rattle.tv_top.specs.Answers.{Answer, Reading, StatusLine, always, answer_built, answer_of, answer_to, answer_to_reading, byte_limit, forward_text, generated_reading, json_of, lineage_text, reading_for, reading_of, reading_of_json, unless_absent, unless_complaint, unless_misformed}
 use Rattle.tv_top.specs.Asked.{GivesAnswer, GivesRun, ended, line_of, refusal_line, refusal_status}
 use Rattle.tv_top.specs.Headline.{IsAnswered, IsAnswersLine, IsLine, IsRead, IsReadRefusal, IsRefusal, IsRefused, IsRefusedSo, Leaving, OfDocument, RefusalCause, Source, read_whole, unread}
 use Rattle.tv_top.specs.declared.status.Status.{Status}
-use Rattle.tv_top.specs.declared.status.Status.TheVariants.{Done, Usage, ReadFault, TooLong, NotJson, Form, Check, NoSuchElement, WriteFault, NoMemory}
+use Rattle.tv_top.specs.declared.status.Status.TheVariants.{Done, Usage, ReadFault, TooLong, NotJson, Form, Check, NotBuilt, NoSuchElement, WriteFault, NoMemory}
 use Rattle.tv_top.specs.declared.refusal.Refusal.{Refusal}
 use Rattle.tv_top.specs.declared.refusal.Refusal.TheVariants as why
 
@@ -33,6 +34,7 @@ Possible TooLong = Unit {0}
 Possible NotJson = Unit {0}
 Possible Form = Unit {0}
 Possible Check = Unit {0}
+Possible NotBuilt = Unit {0}
 Possible NoSuchElement = Unit {0}
 Possible WriteFault = ⊥
 Possible NoMemory = ⊥
@@ -95,13 +97,17 @@ unless-absent : (p : Name) (q : Place) (o : Option Text) → IsPossible (unless_
 unless-absent p q None = tt
 unless-absent p q (Some text) = tt
 
+of-built : (gives : Giving) (command : Command) (d : Document) → IsPossible (answer_built gives command d)
+of-built gives run d = tt
+of-built gives check d = tt
+of-built gives trace d = tt
+of-built gives (lineage p q) d = unless-absent p q (lineage_text gives d p q)
+of-built gives (forward p q) d = unless-absent p q (forward_text gives d p q)
+of-built gives upgrade d = tt
+of-built gives (gen n) d = tt
+
 of-document : (gives : Giving) (command : Command) (d : Document) → IsPossible (answer_to gives command d)
-of-document gives run d = tt
-of-document gives check d = tt
-of-document gives trace d = tt
-of-document gives (lineage p q) d = unless-absent p q (lineage_text gives d p q)
-of-document gives (forward p q) d = unless-absent p q (forward_text gives d p q)
-of-document gives (gen n) d = tt
+of-document gives command d = either (is_unbuilt command d) (Err (always NotBuilt)) (answer_built gives command d) tt (of-built gives command d)
 
 -- ---- a refusal that the bytes decide
 
@@ -124,6 +130,7 @@ module _ {A : Type 0} (left : Leaving) (f : List ℕ → Result A StatusLine) (s
   cause NotJson line p h = when-read NotJson line h
   cause Form line p h = when-read Form line h
   cause Check line p h = when-read Check line h
+  cause NotBuilt line p h = when-read NotBuilt line h
   cause NoSuchElement line p h = when-read NoSuchElement line h
   cause WriteFault line p h = p
   cause NoMemory line p h = tt
@@ -139,6 +146,7 @@ module _ {A : Type 0} (left : Leaving) (f : List ℕ → Result A StatusLine) (s
   line-is (why.Plain NotJson) p h = refl
   line-is (why.Plain Form) p h = told Form [] h
   line-is (why.Plain Check) p h = told Check [] h
+  line-is (why.Plain NotBuilt) p h = refl
   line-is (why.Plain NoSuchElement) p h = told NoSuchElement [] h
   line-is (why.Plain WriteFault) p h = refl
   line-is (why.Plain NoMemory) p h = refl
@@ -222,6 +230,7 @@ module _ (gives : Giving) (knows : Name → Bool) (command : Command) (left : Le
       cause-so NotJson k = λ bytes e. (refusal-so NotJson bytes (k bytes e).0, (k bytes e).1)
       cause-so Form k = λ bytes e. (refusal-so Form bytes (k bytes e).0, (k bytes e).1)
       cause-so Check k = λ bytes e. (refusal-so Check bytes (k bytes e).0, (k bytes e).1)
+      cause-so NotBuilt k = λ bytes e. (refusal-so NotBuilt bytes (k bytes e).0, (k bytes e).1)
       cause-so NoSuchElement k = λ bytes e. (refusal-so NoSuchElement bytes (k bytes e).0, (k bytes e).1)
       cause-so WriteFault k = k
       cause-so NoMemory k = k
@@ -237,6 +246,7 @@ module _ (gives : Giving) (knows : Name → Bool) (command : Command) (left : Le
       line-so NotJson line k = k
       line-so Form line k = both-so Form line k
       line-so Check line k = both-so Check line k
+      line-so NotBuilt line k = k
       line-so NoSuchElement line k = both-so NoSuchElement line k
       line-so WriteFault line k = k
       line-so NoMemory line k = k

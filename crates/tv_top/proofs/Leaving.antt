@@ -9,18 +9,19 @@ use Rattle.tv_top.specs.Asking.{IsAskedFor, ToldCalls}
 use Rattle.tv_top.specs.CommandViews.{reading_view}
 use Rattle.tv_top.specs.Headline.{IsAnswered, IsRead, Source, left_by, read_whole}
 use Rattle.tv_top.specs.Promised.{OfSource}
-use Rattle.tv_top.specs.Words.{Command, ReadsNothing, check, forward, gen, lineage, run, trace}
+use Rattle.tv_top.specs.Words.{Command, ReadsNothing, check, forward, gen, lineage, run, trace, upgrade}
 use Rattle.tv_top.specs.declared.refusal.Refusal.{Refusal}
 use Rattle.tv_top.specs.declared.refusal.Refusal.TheVariants as why
 use Rattle.tv_top.specs.declared.status.Status.TheVariants.{NoMemory}
 use Rattle.tv_top.specs.declared.words.Reading.{Reading}
-use Rattle.tv_top.specs.declared.words.Reading.TheVariants.{Check, Forward, Lineage, Run, Trace}
+use Rattle.tv_top.specs.declared.words.Reading.TheVariants.{Check, Forward, Lineage, Run, Trace, Upgrade}
 
 -- one that reads a document reads something
 pub reads : (r : Reading) → ReadsNothing (Some (reading_view r)) → ⊥
 reads Run h = h
 reads Check h = h
 reads Trace h = h
+reads Upgrade h = h
 reads (Lineage p q) h = h
 reads (Forward p q) h = h
 
@@ -34,6 +35,7 @@ module _ (answer : Option Command → List ℕ → Answer) (s : Source) (x : Res
   answered-read Run h = h
   answered-read Check h = h
   answered-read Trace h = h
+  answered-read Upgrade h = h
   answered-read (Lineage p q) h = h
   answered-read (Forward p q) h = h
 
@@ -49,6 +51,7 @@ short-of-memory answer s (Some check) = (tt, refl)
 short-of-memory answer s (Some trace) = (tt, refl)
 short-of-memory answer s (Some (lineage p q)) = (tt, refl)
 short-of-memory answer s (Some (forward p q)) = (tt, refl)
+short-of-memory answer s (Some upgrade) = (tt, refl)
 short-of-memory answer s (Some (gen n)) = λ t same. (tt, refl)
 
 pub nothing-by : {A : Type 0} (old new : A) (p o : Option Command) → p ≡ o → (ReadsNothing p → new ≡ old) → ReadsNothing o → new ≡ old
@@ -61,6 +64,7 @@ pub read-for :
 read-for knows s Run x h = h
 read-for knows s Check x h = h
 read-for knows s Trace x h = h
+read-for knows s Upgrade x h = h
 read-for knows s (Lineage p q) x h = h
 read-for knows s (Forward p q) x h = h
 

@@ -7,5 +7,8 @@ pub mod Questions
 pub mod Traced
 mod Leaving
 mod Completed
+mod Formats
+mod Upgrading
 mod Finishing
 mod Elements
+mod Loops

@@ -17,7 +17,7 @@ use Rattle.tv_top.specs.Headline.{IsRead, Leaving, RefusalCause, Source}
 use Rattle.tv_top.specs.declared.refusal.Refusal.{Refusal}
 use Rattle.tv_top.specs.declared.refusal.Refusal.TheVariants as why
 use Rattle.tv_top.specs.declared.status.Status.{Status}
-use Rattle.tv_top.specs.declared.status.Status.TheVariants.{Done, Usage, ReadFault, TooLong, NotJson, Form, Check, NoSuchElement, WriteFault, NoMemory}
+use Rattle.tv_top.specs.declared.status.Status.TheVariants.{Done, Usage, ReadFault, TooLong, NotJson, Form, Check, NotBuilt, NoSuchElement, WriteFault, NoMemory}
 
 -- all of them are a beginning of them
 pub all-begin : (before after : ToldCalls) (more : List Call) → AsksThese before after more → BeginsThese before after more
@@ -40,6 +40,7 @@ module _ (gives : Giving) (knows : Name → Bool) (command : Command) (left : Le
   of-refusal NotJson h = absurd h
   of-refusal Form h = absurd h
   of-refusal Check h = absurd h
+  of-refusal NotBuilt h = h
   of-refusal NoSuchElement h = of-bytes (AsksThese before after) h
   of-refusal WriteFault h = absurd h
   of-refusal NoMemory h = inr (of-bytes (BeginsThese before after) h)
@@ -60,6 +61,7 @@ unasked left f asks s before after TooLong cause there same = same
 unasked left f asks s before after NotJson cause there same = same
 unasked left f asks s before after Form cause there same = same
 unasked left f asks s before after Check cause there same = same
+unasked left f asks s before after NotBuilt cause there same = same
 unasked left f asks s before after NoSuchElement cause there same = absurd (there refl)
 unasked left f asks s before after WriteFault cause there same = absurd cause
 unasked left f asks s before after NoMemory cause there same = inl same

@@ -1,6 +1,6 @@
 -- Only a run that is answered asks for something.
 use Rattle.std.specs.Option.{option_map_or}
-use Rattle.std.specs.Prelude.{◌≡◌, ℕ, List, [], ◌∷◌, ◌++◌, Bool, true, false, Option, Some, None, option_map, Ok, Err, refl}
+use Rattle.std.specs.Prelude.{◌≡◌, ℕ, List, [], ◌∷◌, ◌++◌, Bool, true, false, Option, Some, None, option_map, Ok, Err, if◌then◌else◌, refl}
 use Rattle.std.proofs.Common.{ap, sym, subst, ◌∙◌, true≢false, inl, inr}
 use Rattle.std.proofs.lemmas.List.{append-nil}
 use Rattle.tv_value.specs.Nested.{Place}
@@ -11,12 +11,13 @@ use Rattle.tv_flow.specs.Flows.{Document}
 use Rattle.tv_words.specs.elements.Lines.{element_lines}
 use Rattle.tv_model.specs.Lineages as model
 use Rattle.tv_model.specs.Meanings.{meaning}
-use Rattle.tv_top.specs.Words.{Command, run, check, trace, lineage, forward, gen}
-use Rattle.tv_top.specs.Answers.{Answer, Reading, answer_of, answer_to, answer_to_reading, given_at, lineage_text, reading_for, reading_of, unless_absent}
-use Rattle.tv_top.specs.Asking.{AsksThese, BeginsThese, BeginsForDocument, IsAsked, OthersAreNotAsked, OthersAskNothing, RefusalsAskNothing, ToldCalls, asks_of, asks_of_run, asks_to, asks_to_reading, is_lineage, is_run}
+use Rattle.tv_top.specs.Words.{Command, run, check, trace, lineage, forward, upgrade, gen}
+use Rattle.tv_top.specs.Built.{is_unbuilt}
+use Rattle.tv_top.specs.Answers.{Answer, Reading, always, answer_built, answer_of, answer_to, answer_to_reading, given_at, lineage_text, reading_for, reading_of, unless_absent}
+use Rattle.tv_top.specs.Asking.{AsksThese, BeginsThese, BeginsForDocument, IsAsked, OthersAreNotAsked, OthersAskNothing, RefusalsAskNothing, ToldCalls, asks_of, asks_built, asks_of_run, asks_to, asks_to_reading, is_lineage, is_run}
 use Rattle.tv_top.specs.Headline.{Source}
 use Rattle.tv_top.specs.declared.status.Status.{Status}
-use Rattle.tv_top.specs.declared.status.Status.TheVariants.{Done, Usage, ReadFault, TooLong, NotJson, Form, Check, NoSuchElement, WriteFault, NoMemory}
+use Rattle.tv_top.specs.declared.status.Status.TheVariants.{Done, Usage, ReadFault, TooLong, NotJson, Form, Check, NotBuilt, NoSuchElement, WriteFault, NoMemory}
 
 -- a refusal has no calls, unless it is that of an element whose lineage is asked for
 abbrev Fits : Bool → Answer → List Call → Type 0
@@ -32,13 +33,21 @@ of-given p q None f cs = λ h. refl
 of-given p q (Some v) f cs = tt
 
 module _ (gives : Giving) where
+  fits-built : (command : Command) (d : Document) → Fits (is_lineage (Some command)) (answer_built gives command d) (asks_built gives command d)
+  fits-built run d = tt
+  fits-built check d = tt
+  fits-built trace d = tt
+  fits-built (lineage p q) d = of-lineage p q (lineage_text gives d p q) (asks_of_run gives d)
+  fits-built (forward p q) d = of-given p q (given_at d p q) (λ v. element_lines (model.forward (meaning gives d) p q)) (asks_of_run gives d)
+  fits-built upgrade d = tt
+  fits-built (gen n) d = tt
+
   fits-accepted : (command : Command) (d : Document) → Fits (is_lineage (Some command)) (answer_to gives command d) (asks_to gives command d)
-  fits-accepted run d = tt
-  fits-accepted check d = tt
-  fits-accepted trace d = tt
-  fits-accepted (lineage p q) d = of-lineage p q (lineage_text gives d p q) (asks_of_run gives d)
-  fits-accepted (forward p q) d = of-given p q (given_at d p q) (λ v. element_lines (model.forward (meaning gives d) p q)) (asks_of_run gives d)
-  fits-accepted (gen n) d = tt
+  fits-accepted command d = by (is_unbuilt command d)
+    where
+      by : (b : Bool) → Fits (is_lineage (Some command)) (if b then Err (always NotBuilt) else answer_built gives command d) (if b then [] else asks_built gives command d)
+      by true = λ h. refl
+      by false = fits-built command d
 
   fits-reading : (command : Command) (reading : Reading) → Fits (is_lineage (Some command)) (answer_to_reading gives command reading) (asks_to_reading gives command reading)
   fits-reading command (Ok d) = fits-accepted command d
@@ -52,6 +61,10 @@ module _ (gives : Giving) where
   check-asks (Ok d) = refl
   check-asks (Err r) = refl
 
+  upgrade-asks : (reading : Reading) → asks_to_reading gives upgrade reading ≡ []
+  upgrade-asks (Ok d) = refl
+  upgrade-asks (Err r) = refl
+
 pub others-ask-nothing : OthersAskNothing
 others-ask-nothing gives knows None bytes e = refl
 others-ask-nothing gives knows (Some run) bytes e = absurd (true≢false e)
@@ -59,6 +72,7 @@ others-ask-nothing gives knows (Some check) bytes e = check-asks gives (reading_
 others-ask-nothing gives knows (Some trace) bytes e = absurd (true≢false e)
 others-ask-nothing gives knows (Some (lineage p q)) bytes e = absurd (true≢false e)
 others-ask-nothing gives knows (Some (forward p q)) bytes e = absurd (true≢false e)
+others-ask-nothing gives knows (Some upgrade) bytes e = upgrade-asks gives (reading_of knows bytes)
 others-ask-nothing gives knows (Some (gen n)) bytes e = absurd (true≢false e)
 
 pub refusals-ask-nothing : RefusalsAskNothing
@@ -101,6 +115,7 @@ module _ (gives : Giving) (knows : Name → Bool) (words : Option Command) (s : 
   not-asked NotJson h = h
   not-asked Form h = h
   not-asked Check h = h
+  not-asked NotBuilt h = h
   not-asked NoSuchElement h = none-more before after (asks h.0.0) (none h.0.0) h.0.1
   not-asked WriteFault h = none-more before after (asks h.0.0) (none h.0.0) h.0.1
   not-asked NoMemory h = none-for h

@@ -23,11 +23,13 @@ use Rattle.tv_report.specs.FormLines.{form_text}
 use Rattle.tv_report.specs.CheckLines.{check_text}
 use Rattle.tv_report.specs.DepthLines.{depth_text}
 use Rattle.tv_report.specs.TraceLines.{trace_text}
+use Rattle.tv_report.specs.UpgradeTexts.{upgraded_text}
 use Rattle.tv_generator.specs.Summaries.{summary_text}
-use Rattle.tv_top.specs.Words.{Command, run, check, trace, lineage, forward, gen}
+use Rattle.tv_top.specs.Words.{Command, run, check, trace, lineage, forward, upgrade, gen}
+use Rattle.tv_top.specs.Built.{is_unbuilt}
 use Rattle.tv_top.specs.Lines.{absent_line, fault_line}
 use Rattle.tv_top.specs.declared.status.Status.{Status}
-use Rattle.tv_top.specs.declared.status.Status.TheVariants.{Usage, TooLong, NotJson, Form, Check, NoSuchElement}
+use Rattle.tv_top.specs.declared.status.Status.TheVariants.{Usage, TooLong, NotJson, Form, Check, NotBuilt, NoSuchElement}
 
 -- a status with its line
 abbrev pub StatusLine : Type 0
@@ -81,6 +83,7 @@ module _ (knows : Name → Bool) where
   reading_for trace bytes = reading_of bytes
   reading_for (lineage p q) bytes = reading_of bytes
   reading_for (forward p q) bytes = reading_of bytes
+  reading_for upgrade bytes = reading_of bytes
   reading_for (gen n) bytes = generated_reading n
 
 -- ---- answers
@@ -114,14 +117,20 @@ module _ (gives : Giving) where
   forward_text d p q =
       option_map (λ v. element_lines (model.forward (meaning gives d) p q)) (given_at d p q)
 
+  -- what a command answers to an accepted document that it is built for
+  abbrev pub answer_built : Command → Document → Answer
+  answer_built run d = Ok (result_line (meaning gives d))
+  answer_built check d = Ok (depth_text d)
+  answer_built trace d = Ok (trace_text (map (λ p. p.0) (ask_order (meaning gives d))))
+  answer_built (lineage p q) d = unless_absent p q (lineage_text d p q)
+  answer_built (forward p q) d = unless_absent p q (forward_text d p q)
+  answer_built upgrade d = Ok (upgraded_text d)
+  answer_built (gen n) d = Ok (summary_of n d)
+
   -- what a command answers to an accepted document
   abbrev pub answer_to : Command → Document → Answer
-  answer_to run d = Ok (result_line (meaning gives d))
-  answer_to check d = Ok (depth_text d)
-  answer_to trace d = Ok (trace_text (map (λ p. p.0) (ask_order (meaning gives d))))
-  answer_to (lineage p q) d = unless_absent p q (lineage_text d p q)
-  answer_to (forward p q) d = unless_absent p q (forward_text d p q)
-  answer_to (gen n) d = Ok (summary_of n d)
+  answer_to command d = if is_unbuilt command d then Err (always NotBuilt)
+      else answer_built command d
 
   abbrev pub answer_to_reading : Command → Reading → Answer
   answer_to_reading command (Ok d) = answer_to command d

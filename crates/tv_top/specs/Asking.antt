@@ -1,6 +1,6 @@
 -- What a command asks of the services for the bytes that it reads, and what is asked by the status, where the asker tells its calls.
 use Rattle.std.specs.Option.{option_map_or}
-use Rattle.std.specs.Prelude.{◌≡◌, ℕ, List, [], ◌++◌, map, Bool, true, false, Option, Some, None, ◌⊎◌, Result, Ok, Err}
+use Rattle.std.specs.Prelude.{◌≡◌, ℕ, List, [], ◌++◌, map, Bool, true, false, if◌then◌else◌, Option, Some, None, ◌⊎◌, Result, Ok, Err}
 use Rattle.tv_value.specs.Values.{Text, Name}
 use Rattle.tv_gate.specs.Calls.{Call, IsSameCalls}
 use Rattle.tv_gate.specs.Outcomes.{Giving}
@@ -9,13 +9,14 @@ use Rattle.tv_model.specs.Meanings.{meaning}
 use Rattle.tv_model.specs.Turns.{ask_order}
 use Rattle.tv_work.specs.Alone.{IsFirstPart}
 use Rattle.tv_work.specs.Asked.{call_of}
-use Rattle.tv_top.specs.Words.{Command, run, check, trace, lineage, forward, gen}
+use Rattle.tv_top.specs.Words.{Command, run, check, trace, lineage, forward, upgrade, gen}
+use Rattle.tv_top.specs.Built.{is_unbuilt}
 use Rattle.tv_top.specs.Answers.{Reading, StatusLine, given_at, reading_for, answer_of}
 use Rattle.tv_top.specs.Asked.{refusal_status}
 use Rattle.tv_top.specs.Headline.{Source, OfDocument}
 use Rattle.tv_top.specs.declared.refusal.Refusal.{Refusal}
 use Rattle.tv_top.specs.declared.status.Status.{Status}
-use Rattle.tv_top.specs.declared.status.Status.TheVariants.{Done, Usage, ReadFault, TooLong, NotJson, Form, Check, NoSuchElement, WriteFault, NoMemory}
+use Rattle.tv_top.specs.declared.status.Status.TheVariants.{Done, Usage, ReadFault, TooLong, NotJson, Form, Check, NotBuilt, NoSuchElement, WriteFault, NoMemory}
 
 -- For all services. What isn't answered by a run asks nothing.
 module _ (gives : Giving) where
@@ -23,14 +24,19 @@ module _ (gives : Giving) where
   abbrev pub asks_of_run : Document → List Call
   asks_of_run d = map call_of (ask_order (meaning gives d))
 
-  -- the calls that a command takes for an accepted document; an element of an input that isn't there takes none
+  -- the calls that a command takes for an accepted document that it is built for; an element of an input that isn't there takes none
+  abbrev pub asks_built : Command → Document → List Call
+  asks_built run d = asks_of_run d
+  asks_built check d = []
+  asks_built trace d = asks_of_run d
+  asks_built (lineage p q) d = asks_of_run d
+  asks_built (forward p q) d = option_map_or (λ v. asks_of_run d) (given_at d p q) []
+  asks_built upgrade d = []
+  asks_built (gen n) d = asks_of_run d
+
+  -- the calls that a command takes for an accepted document
   abbrev pub asks_to : Command → Document → List Call
-  asks_to run d = asks_of_run d
-  asks_to check d = []
-  asks_to trace d = asks_of_run d
-  asks_to (lineage p q) d = asks_of_run d
-  asks_to (forward p q) d = option_map_or (λ v. asks_of_run d) (given_at d p q) []
-  asks_to (gen n) d = asks_of_run d
+  asks_to command d = if is_unbuilt command d then [] else asks_built command d
 
   abbrev pub asks_to_reading : Command → Reading → List Call
   asks_to_reading command (Ok d) = asks_to command d
@@ -67,6 +73,7 @@ RefusalAsks before after more TooLong = ⊥
 RefusalAsks before after more NotJson = ⊥
 RefusalAsks before after more Form = ⊥
 RefusalAsks before after more Check = ⊥
+RefusalAsks before after more NotBuilt = IsSameCalls before after
 RefusalAsks before after more NoSuchElement = AsksThese before after more
 RefusalAsks before after more WriteFault = ⊥
 RefusalAsks before after more NoMemory = BeginsThese before after more
@@ -99,6 +106,7 @@ IsAsked asks s before after TooLong = IsSameCalls before after
 IsAsked asks s before after NotJson = IsSameCalls before after
 IsAsked asks s before after Form = IsSameCalls before after
 IsAsked asks s before after Check = IsSameCalls before after
+IsAsked asks s before after NotBuilt = IsSameCalls before after
 IsAsked asks s before after NoSuchElement = AsksForDocument asks s before after
 IsAsked asks s before after WriteFault = AsksForDocument asks s before after
 IsAsked asks s before after NoMemory = BeginsForDocument asks s before after
@@ -119,6 +127,7 @@ is_run (Some check) = false
 is_run (Some trace) = true
 is_run (Some (lineage p q)) = true
 is_run (Some (forward p q)) = true
+is_run (Some upgrade) = false
 is_run (Some (gen n)) = true
 
 -- other words take no call
@@ -135,6 +144,7 @@ is_lineage (Some check) = false
 is_lineage (Some trace) = false
 is_lineage (Some (lineage p q)) = true
 is_lineage (Some (forward p q)) = false
+is_lineage (Some upgrade) = false
 is_lineage (Some (gen n)) = false
 
 -- no refusal takes a call, but that of an element of an output: a run tells that it isn't there

@@ -5,7 +5,7 @@ use Rattle.tv_top.specs.Words as spec
 use Rattle.tv_top.specs.declared.words.Command.{Command}
 use Rattle.tv_top.specs.declared.words.Command.TheVariants.{Gen, Of}
 use Rattle.tv_top.specs.declared.words.Reading.{Reading}
-use Rattle.tv_top.specs.declared.words.Reading.TheVariants.{Check, Forward, Lineage, Run, Trace}
+use Rattle.tv_top.specs.declared.words.Reading.TheVariants.{Check, Forward, Lineage, Run, Trace, Upgrade}
 use Rattle.tv_top.specs.declared.words.Request.{Request}
 use Rattle.tv_top.specs.declared.words.Request.TheVariants as by
 
@@ -14,6 +14,7 @@ abbrev pub reading_view : Reading → spec.Command
 reading_view Run = spec.run
 reading_view Check = spec.check
 reading_view Trace = spec.trace
+reading_view Upgrade = spec.upgrade
 reading_view (Lineage port place) = spec.lineage port place
 reading_view (Forward port place) = spec.forward port place
 

@@ -9,11 +9,11 @@ use Rattle.tv_check.specs.RunViews.{run_view}
 use Rattle.tv_check.specs.declared.run.CheckedRun.{CheckedRun}
 use Rattle.tv_top.specs.Answers.{Answer, Reading, StatusLine}
 use Rattle.tv_top.specs.Lines.{fault_line}
-use Rattle.tv_top.specs.Words.{Command, check, forward, gen, lineage, run, trace}
+use Rattle.tv_top.specs.Words.{Command, check, forward, gen, lineage, run, trace, upgrade}
 use Rattle.tv_top.specs.Asked.{refusal_status, refusal_line}
 use Rattle.tv_top.specs.declared.refusal.Refusal.{Refusal}
 use Rattle.tv_top.specs.declared.status.Status.{Status}
-use Rattle.tv_top.specs.declared.status.Status.TheVariants.{Done, Usage, ReadFault, TooLong, NotJson, Form, Check, NoSuchElement, WriteFault, NoMemory}
+use Rattle.tv_top.specs.declared.status.Status.TheVariants.{Done, Usage, ReadFault, TooLong, NotJson, Form, Check, NotBuilt, NoSuchElement, WriteFault, NoMemory}
 
 -- bytes that a source or a sink may tell
 abbrev pub Told : Type 0
@@ -81,6 +81,7 @@ left_by (Some check) = read_whole
 left_by (Some trace) = read_whole
 left_by (Some (lineage p q)) = read_whole
 left_by (Some (forward p q)) = read_whole
+left_by (Some upgrade) = read_whole
 left_by (Some (gen n)) = unread
 
 -- the source was left so, and this text is the answer
@@ -112,6 +113,7 @@ Cause left answer s out TooLong = IsRefusal answer s TooLong
 Cause left answer s out NotJson = IsReadRefusal left answer s NotJson
 Cause left answer s out Form = IsReadRefusal left answer s Form
 Cause left answer s out Check = IsReadRefusal left answer s Check
+Cause left answer s out NotBuilt = IsReadRefusal left answer s NotBuilt
 Cause left answer s out NoSuchElement = IsReadRefusal left answer s NoSuchElement
 -- the output counted a fault; the document was read to its end, where one is read, and a beginning of its answer was written, not the whole
 Cause left answer s out WriteFault = WriteFailed out
@@ -130,6 +132,7 @@ RefusalCause left answer s TooLong = IsRefusal answer s TooLong
 RefusalCause left answer s NotJson = IsReadRefusal left answer s NotJson
 RefusalCause left answer s Form = IsReadRefusal left answer s Form
 RefusalCause left answer s Check = IsReadRefusal left answer s Check
+RefusalCause left answer s NotBuilt = IsReadRefusal left answer s NotBuilt
 RefusalCause left answer s NoSuchElement = IsReadRefusal left answer s NoSuchElement
 RefusalCause left answer s WriteFault = ⊥
 RefusalCause left answer s NoMemory = Unit {0}
@@ -162,6 +165,7 @@ IsLine answer s TooLong line = line ≡ fault_line TooLong
 IsLine answer s NotJson line = line ≡ fault_line NotJson
 IsLine answer s Form line = IsAnswersLine answer s Form line
 IsLine answer s Check line = IsAnswersLine answer s Check line
+IsLine answer s NotBuilt line = line ≡ fault_line NotBuilt
 IsLine answer s NoSuchElement line = IsAnswersLine answer s NoSuchElement line
 IsLine answer s WriteFault line = line ≡ fault_line WriteFault
 IsLine answer s NoMemory line = line ≡ fault_line NoMemory

@@ -1,8 +1,10 @@
 pub mod Words
+pub mod Built
 pub mod Lines
 pub mod Answers
 pub mod Asked
 pub mod Headline
+pub mod Upgraded
 pub mod Promised
 pub mod Asking
 pub mod CommandViews

@@ -15,6 +15,8 @@ pub data Command : Type 0 where
   lineage : Name → Place → Command
   -- read a document, run it, and write which leaves of the outputs used this element of an input
   forward : Name → Place → Command
+  -- read a document, check it, and write the same document in the second format
+  upgrade : Command
   -- run the generated document of a number, and write the summary; nothing is read
   gen : ℕ → Command
 
@@ -25,6 +27,7 @@ carried_out line.check = check
 carried_out line.trace = trace
 carried_out (line.lineage port place) = lineage port place
 carried_out (line.forward port place) = forward port place
+carried_out line.upgrade = upgrade
 carried_out (line.gen number workers) = gen number
 
 -- the words are those after the program's name
@@ -38,6 +41,7 @@ workers_of line.check = 1
 workers_of line.trace = 1
 workers_of (line.lineage port place) = 1
 workers_of (line.forward port place) = 1
+workers_of line.upgrade = 1
 workers_of (line.gen number workers) = workers
 
 abbrev pub is_for_many : Option line.Command → Bool
@@ -60,4 +64,5 @@ ReadsNothing (Some check) = ⊥
 ReadsNothing (Some trace) = ⊥
 ReadsNothing (Some (lineage p q)) = ⊥
 ReadsNothing (Some (forward p q)) = ⊥
+ReadsNothing (Some upgrade) = ⊥
 ReadsNothing (Some (gen n)) = Unit {0}

@@ -3,16 +3,16 @@ use Rattle.std.specs.Prelude.{◌≡◌, List, [], ◌∷◌, map, codes, Some, 
 use Rattle.serde_json.specs.Data.{object, no_members}
 use Rattle.tv_value.specs.Values.{Text, Name, Value, text_value}
 use Rattle.tv_gate.specs.Calls.{Call}
-use Rattle.tv_flow.specs.Flows.{Document}
+use Rattle.tv_flow.specs.Flows.{Document, upgraded}
 use Rattle.tv_json.specs.Documents.{document_json}
 use Rattle.tv_local.specs.LocalGives.{local_gives, local_knows}
 use Rattle.tv_model.specs.Writing.{a, asks, b, constant_text, document, from_input, from_step, line, out, takes, words, x, y}
 use Rattle.tv_model.specs.RowsOfFlows.{opening as nested_flow}
-use Rattle.tv_top.specs.Words.{Command, command_of, run, check, trace, lineage, forward, gen}
+use Rattle.tv_top.specs.Words.{Command, command_of, run, check, trace, lineage, forward, upgrade, gen}
 use Rattle.tv_top.specs.Answers.{Answer, Reading, always, answer_of, answer_to_reading, reading_of_json}
 use Rattle.tv_top.specs.Asking.{asks_of, asks_to_reading}
 use Rattle.tv_top.specs.Lines.{fault_line, code_of}
-use Rattle.tv_top.specs.declared.status.Status.TheVariants.{Done, Usage, ReadFault, TooLong, NotJson, Form, Check, NoSuchElement, WriteFault, NoMemory}
+use Rattle.tv_top.specs.declared.status.Status.TheVariants.{Done, Usage, ReadFault, TooLong, NotJson, Form, Check, NotBuilt, NoSuchElement, WriteFault, NoMemory}
 
 -- ---- documents
 
@@ -75,6 +75,20 @@ circle =
     ∷ (codes "q", asks (codes "lower") (takes a (from_step (codes "p")) ∷ [])) ∷ [])
     (out (codes "q"))
     ((x, text_value (codes "a")) ∷ [])
+
+-- capitals, until they are capitals, at most three times
+abbrev pub goes_round : Document
+goes_round =
+    upgraded (document
+    ((x, 0) ∷ [])
+    ((
+      codes "u",
+      record (asks (codes "upper") (takes a (from_input x) ∷ [])) {
+        repeat = Some (record { service = codes "echo"; until = codes "A"; most = 3 });
+      },
+    ) ∷ [])
+    (out (codes "u"))
+    ((x, text_value (codes "a")) ∷ []))
 
 -- ---- answers
 
@@ -143,6 +157,18 @@ ChecksCross = answer check two_ports
 abbrev pub ChecksChain : Type 0
 ChecksChain = answer check two_steps
     ≡ Ok (codes "in m p a 0 1\nout m p o 0 1\nin m q a 0 1\nout m q o 0 1\nflow m out 1\n")
+
+-- every field is written, also what was left out
+abbrev pub UpgradesOneText : Type 0
+UpgradesOneText = answer upgrade (one_step (text_value (codes "a")))
+    ≡ Ok (codes "{\"flows\":{\"m\":{\"inputs\":{\"x\":0},\"outputs\":{\"out\":{\"port\":\"o\",\"step\":\"u\"}},\"steps\":{\"u\":{\"activities\":[{\"service\":\"upper\"}],\"after\":[],\"inputs\":{\"a\":{\"depth\":0,\"from\":{\"input\":\"x\"}}},\"jobs\":1,\"outputs\":{\"o\":0},\"retries\":0}}}},\"inputs\":{\"x\":\"a\"},\"main\":\"m\",\"taverna\":2}\n")
+
+-- a loop is checked, and not run yet
+abbrev pub RefusesLoop : Type 0
+RefusesLoop =
+    (answer run goes_round ≡ Err (always NotBuilt))
+    × (answer (lineage x []) goes_round ≡ Err (always NotBuilt))
+    × (answer check goes_round ≡ Ok (codes "in m u a 0 0\nout m u o 0 0\nflow m out 0\n"))
 
 -- both commands refuse it, and in this order: the form, the check
 abbrev pub RefusesDepth : Type 0
@@ -234,6 +260,7 @@ TakesCommands =
     × (command_of (codes "run" ∷ codes "--workers" ∷ codes "4" ∷ []) ≡ Some run)
     × (command_of (codes "check" ∷ []) ≡ Some check)
     × (command_of (codes "trace" ∷ []) ≡ Some trace)
+    × (command_of (codes "upgrade" ∷ []) ≡ Some upgrade)
     × (command_of (codes "lineage" ∷ codes "--of" ∷ codes "out[1,0]" ∷ [])
     ≡ Some (lineage (codes "out") (1 ∷ 0 ∷ [])))
     × (command_of (codes "forward" ∷ codes "--of" ∷ codes "x[]" ∷ []) ≡ Some (forward x []))
@@ -252,11 +279,12 @@ TakesNothingElse =
 abbrev pub TellsCodes : Type 0
 TellsCodes =
     map code_of (Done ∷ Usage ∷ ReadFault ∷ TooLong ∷ NotJson ∷ Form ∷ Check ∷ NoSuchElement
-    ∷ WriteFault ∷ NoMemory ∷ []) ≡ 0 ∷ 2 ∷ 3 ∷ 4 ∷ 5 ∷ 6 ∷ 7 ∷ 8 ∷ 9 ∷ 10 ∷ []
+    ∷ WriteFault ∷ NoMemory ∷ NotBuilt ∷ [])
+    ≡ 0 ∷ 2 ∷ 3 ∷ 4 ∷ 5 ∷ 6 ∷ 7 ∷ 8 ∷ 9 ∷ 10 ∷ 11 ∷ []
 
 abbrev pub TellsLines : Type 0
 TellsLines =
-    map fault_line (ReadFault ∷ TooLong ∷ NotJson ∷ WriteFault ∷ NoMemory ∷ [])
+    map fault_line (ReadFault ∷ TooLong ∷ NotJson ∷ WriteFault ∷ NoMemory ∷ NotBuilt ∷ [])
     ≡ codes "taverna: read fault\n" ∷ codes "taverna: input longer than 16777216 bytes\n"
     ∷ codes "taverna: not JSON\n" ∷ codes "taverna: write fault\n"
-    ∷ codes "taverna: want of memory\n" ∷ []
+    ∷ codes "taverna: want of memory\n" ∷ codes "taverna: not built\n" ∷ []

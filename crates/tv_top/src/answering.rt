@@ -6,25 +6,28 @@ ghost use Rattle.tv_model.specs.Results.{result_line};
 ghost use Rattle.tv_model.specs.Turns.{ask_order};
 ghost use Rattle.tv_report.specs.TraceLines.{trace_text};
 ghost use Rattle.tv_work.specs.Asked.{call_of};
-ghost use Rattle.tv_top.specs.Answers.{answer_to, summary_of};
+ghost use Rattle.tv_top.specs.Answers.{answer_built, answer_to, summary_of};
+ghost use Rattle.tv_top.specs.Built.{is_unbuilt, runs};
 ghost use Rattle.tv_top.specs.Asked.{GivesAnswer};
-ghost use Rattle.tv_top.specs.Asking.{AsksThese, BeginsThese, GivesAsks, asks_to};
+ghost use Rattle.tv_top.specs.Asking.{AsksThese, BeginsThese, GivesAsks, asks_built, asks_to};
 ghost use Rattle.tv_top.specs.CommandViews.{reading_view};
 ghost use Rattle.tv_top.specs.Words.{gen};
 
+use crate::built::is_built;
 use crate::following::{forward, lineage};
 use crate::refusal::Refusal;
+use crate::status::Status;
 use crate::words::Reading;
 use std::alloc::Global;
 use tv_check::CheckedRun;
 use tv_gate::Asker;
 use tv_generator::summary_line;
-use tv_report::{depth_lines, result_line, trace_lines};
+use tv_report::{depth_lines, result_line, trace_lines, upgraded_line};
 use tv_value::{NoMemory, Text};
 use tv_work::{run_board, run_whole};
 
-/// The answer of a command to an accepted document. `check` is linear in the document; the others cost a run, and `lineage` and
-/// `forward` besides what their records cost (`tv_board`).
+/// The answer of a command to an accepted document. `check` and `upgrade` are linear in the document; the others cost a run, and
+/// `lineage` and `forward` besides what their records cost (`tv_board`).
 pub(crate) fn answer<A: Asker>(
     alloc: Global,
     command: Reading,
@@ -36,8 +39,44 @@ pub(crate) fn answer<A: Asker>(
     ensures asked { GivesAsks (A.calls asker.old) (A.calls asker.new) result
         (asks_to A.Services.gives (reading_view command) (run_view run)) }
 {
+    if is_unbuilt(&command, &run) {
+        return Err(Refusal::Plain(Status::NotBuilt));
+    }
+    built_answer(alloc, command, run, asker)
+}
+
+/// Whether a command runs a document that a run isn't built for.
+fn is_unbuilt(command: &Reading, run: &CheckedRun) -> bool
+    ensures { result ≡ is_unbuilt (reading_view command.now) (run_view run.now) }
+{
+    runs(command) && !is_built(run.document())
+}
+
+/// Whether a command runs the document that it reads.
+fn runs(command: &Reading) -> bool
+    ensures { result ≡ runs (reading_view command.now) }
+{
+    match command {
+        Reading::Check | Reading::Upgrade => false,
+        _ => true,
+    }
+}
+
+/// The answer of a command to a document that it is built for.
+fn built_answer<A: Asker>(
+    alloc: Global,
+    command: Reading,
+    run: CheckedRun,
+    asker: &mut A,
+) -> Result<Text, Refusal>
+    ensures answer { GivesAnswer result (answer_built A.Services.gives (reading_view command)
+        (run_view run)) }
+    ensures asked { GivesAsks (A.calls asker.old) (A.calls asker.new) result
+        (asks_built A.Services.gives (reading_view command) (run_view run)) }
+{
     match command {
         Reading::Check => Ok(depth_lines(alloc, &run)?),
+        Reading::Upgrade => Ok(upgraded_line(alloc, run.document())?),
         Reading::Run => Ok(result_of_run(alloc, run, asker)?),
         Reading::Trace => Ok(trace_of_run(alloc, run, asker)?),
         Reading::Lineage { port, place } => lineage(alloc, &port, &place, run, asker),

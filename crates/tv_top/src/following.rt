@@ -5,9 +5,9 @@ ghost use Rattle.tv_model.specs.Lineages as model;
 ghost use Rattle.tv_model.specs.Meanings.{meaning};
 ghost use Rattle.tv_model.specs.Turns.{ask_order};
 ghost use Rattle.tv_work.specs.Asked.{call_of};
-ghost use Rattle.tv_top.specs.Answers.{answer_to, given_at};
+ghost use Rattle.tv_top.specs.Answers.{answer_built, given_at};
 ghost use Rattle.tv_top.specs.Asked.{GivesAnswer};
-ghost use Rattle.tv_top.specs.Asking.{AsksThese, BeginsThese, GivesAsks, asks_to};
+ghost use Rattle.tv_top.specs.Asking.{AsksThese, BeginsThese, GivesAsks, asks_built};
 ghost use Rattle.tv_top.specs.Lines.{absent_line};
 ghost use Rattle.tv_top.specs.Words as spec;
 
@@ -31,9 +31,9 @@ pub(crate) fn lineage<A: Asker>(
     asker: &mut A,
 ) -> Result<Text, Refusal>
     ensures answer { GivesAnswer result
-        (answer_to A.Services.gives (spec.lineage port.now place.now) (run_view run)) }
+        (answer_built A.Services.gives (spec.lineage port.now place.now) (run_view run)) }
     ensures asked { GivesAsks (A.calls asker.old) (A.calls asker.new) result
-        (asks_to A.Services.gives (spec.lineage port.now place.now) (run_view run)) }
+        (asks_built A.Services.gives (spec.lineage port.now place.now) (run_view run)) }
 {
     match lineage_of_run(alloc, port, place, run, asker)? {
         Some(labels) => Ok(label_lines(alloc, &labels)?),
@@ -80,9 +80,9 @@ pub(crate) fn forward<A: Asker>(
     asker: &mut A,
 ) -> Result<Text, Refusal>
     ensures answer { GivesAnswer result
-        (answer_to A.Services.gives (spec.forward port.now place.now) (run_view run)) }
+        (answer_built A.Services.gives (spec.forward port.now place.now) (run_view run)) }
     ensures asked { GivesAsks (A.calls asker.old) (A.calls asker.new) result
-        (asks_to A.Services.gives (spec.forward port.now place.now) (run_view run)) }
+        (asks_built A.Services.gives (spec.forward port.now place.now) (run_view run)) }
 {
     if is_given(&run, port, place) {
         let leaves = forward_of_run(alloc, port, place, run, asker)?;

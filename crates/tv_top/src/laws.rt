@@ -1,7 +1,7 @@
 //! Laws of the definitions, and the definitions computed on worked examples: each is the clause of a function that does nothing,
 //! so a definition that comes to something else is refused.
-ghost use Rattle.tv_top.specs.Worked.{RunsOneText, RunsChain, RunsFailure, RunsCross, RunsNestedFlow, RunsGenerated, ChecksCross, ChecksChain, LineageOfCross, LineageOfFailure, ForwardOfCross, TracesAttempts, TracesChain, TracesFailure};
-ghost use Rattle.tv_top.specs.Worked.{RefusesDepth, RefusesCircle, RefusesNoDocument, RefusesNoJson, RefusesNoCommand, RefusesElements};
+ghost use Rattle.tv_top.specs.Worked.{RunsOneText, RunsChain, RunsFailure, RunsCross, RunsNestedFlow, RunsGenerated, ChecksCross, ChecksChain, LineageOfCross, LineageOfFailure, ForwardOfCross, TracesAttempts, TracesChain, TracesFailure, UpgradesOneText};
+ghost use Rattle.tv_top.specs.Worked.{RefusesDepth, RefusesCircle, RefusesNoDocument, RefusesNoJson, RefusesNoCommand, RefusesElements, RefusesLoop};
 ghost use Rattle.tv_top.specs.Worked.{AsksChain, AsksFailure, AsksAttempts, AsksForward, AsksGenerated, AsksLineage, AsksNoCheck};
 ghost use Rattle.tv_top.specs.Worked.{TakesCommands, TakesNothingElse, TellsCodes, TellsLines};
 ghost use Rattle.tv_top.specs.Asking.{OthersAreNotAsked, OthersAskNothing, RefusalsAskNothing};
@@ -22,6 +22,7 @@ pub fn worked_texts()
     ensures forward { ForwardOfCross }
     ensures depths { ChecksCross }
     ensures chain_depths { ChecksChain }
+    ensures upgrade { UpgradesOneText }
 {}
 
 /// What is refused, with its line.
@@ -32,6 +33,7 @@ pub fn worked_refusals()
     ensures no_json { RefusesNoJson }
     ensures no_command { RefusesNoCommand }
     ensures elements { RefusesElements }
+    ensures unbuilt { RefusesLoop }
 {}
 
 /// What is asked of the services, call by call.

@@ -5,11 +5,12 @@ ghost use Rattle.tv_io.specs.ReadOf.{TakesAtMost};
 ghost use Rattle.tv_model.specs.Meanings.{meaning};
 ghost use Rattle.tv_model.specs.Results.{result_line};
 ghost use Rattle.tv_words.specs.Stated.{IsCount};
-ghost use Rattle.tv_top.specs.Answers.{answer_of, byte_limit, summary_of};
-ghost use Rattle.tv_top.specs.Asked.{ended};
+ghost use Rattle.tv_top.specs.Answers.{answer_of, answer_to, byte_limit, summary_of};
+ghost use Rattle.tv_top.specs.Asked.{GivesAnswer, ended};
 ghost use Rattle.tv_top.specs.Headline.{IsAnswered, Source as ASource, read_whole, source_told, unread};
 ghost use Rattle.tv_top.specs.Words as spec;
 
+use crate::built::is_built;
 use crate::refusal::Refusal;
 use crate::status::Status;
 use crate::top::{run_generated, run_read};
@@ -40,6 +41,24 @@ pub(crate) fn read_and_run<R: Threads + Wait + Sync, S: Source, G: Gate>(
     ensures command { ended result ≢ Status.Usage }
 {
     let run = run_read::<S, G::Services>(alloc, source)?;
+    result_or_refusal(rt, alloc, run, gate, workers)
+}
+
+/// The result line of a document, where a run is built for it.
+fn result_or_refusal<R: Threads + Wait + Sync, G: Gate>(
+    rt: &R,
+    alloc: Global,
+    run: CheckedRun,
+    gate: &G,
+    workers: u32,
+) -> Result<Text, Refusal>
+    requires { IsCount workers }
+    ensures answer { GivesAnswer result (answer_to G.Services.gives spec.run (run_view run)) }
+    ensures command { ended result ≢ Status.Usage }
+{
+    if !is_built(run.document()) {
+        return Err(Refusal::Plain(Status::NotBuilt));
+    }
     let text = result_by_workers(rt, alloc, run, gate, workers)?;
     Ok(text)
 }

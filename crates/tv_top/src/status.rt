@@ -18,6 +18,8 @@ pub enum Status {
     Form,
     /// The check complains of the document.
     Check,
+    /// The document is to be run and has a loop, which isn't built yet.
+    NotBuilt,
     /// The port that is asked of has no element at that place, or there is no such port.
     NoSuchElement,
     /// A write of the output failed.
@@ -27,7 +29,7 @@ pub enum Status {
 }
 
 impl Status {
-    /// The exit code: 0, 2, 3, 4, 5, 6, 7, 8, 9 and 10 in the order above.
+    /// The exit code: 0, 2, 3, 4, 5, 6, 7, 11, 8, 9 and 10 in the order above.
     pub fn code(self) -> u8
         ensures { result ≡ code_of self }
     {
@@ -42,6 +44,7 @@ impl Status {
             Status::NoSuchElement => 8,
             Status::WriteFault => 9,
             Status::NoMemory => 10,
+            Status::NotBuilt => 11,
         }
     }
 
@@ -53,12 +56,13 @@ impl Status {
         match self {
             Status::Done => "",
             Status::Usage =>
-                "taverna: usage: taverna run [--workers N] | check | trace | lineage --of PORT[PLACE] | forward --of PORT[PLACE] | gen N [--workers W]\n",
+                "taverna: usage: taverna run [--workers N] | check | trace | lineage --of PORT[PLACE] | forward --of PORT[PLACE] | gen N [--workers W] | upgrade\n",
             Status::ReadFault => "taverna: read fault\n",
             Status::TooLong => "taverna: input longer than 16777216 bytes\n",
             Status::NotJson => "taverna: not JSON\n",
             Status::Form => "",
             Status::Check => "",
+            Status::NotBuilt => "taverna: not built\n",
             Status::NoSuchElement => "",
             Status::WriteFault => "taverna: write fault\n",
             Status::NoMemory => "taverna: want of memory\n",

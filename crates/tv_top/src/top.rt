@@ -1,5 +1,5 @@
 //! The top calls.
-ghost use Rattle.std.specs.Prelude.{◌+◌, ◌≡◌, ◌≢◌, ◌≤◌, ◌↔◌, Some, None, OnErr, OnOk};
+ghost use Rattle.std.specs.Prelude.{◌+◌, ◌≡◌, ◌≢◌, ◌≤◌, ◌↔◌, Some, None, IfOk, IsUtf8, OnErr, OnOk};
 ghost use Rattle.tv_io.specs.ReadOf.{TakesAtMost};
 ghost use Rattle.tv_top.specs.Words.{IsForMany, IsForOne, ReadsNothing, gen};
 ghost use Rattle.tv_top.specs.CommandViews.{IsBounded, command_view, reading_view};
@@ -32,8 +32,9 @@ const BYTE_LIMIT: usize = 1 << 24;
 ///
 /// The answer is a function of the words and the bytes, for the services of the asker's type. Nothing is written to
 /// `out` before all of it is made. `check` takes near linear time in the document. A run goes over a board (`tv_board`):
-/// beside what the services take, its time grows in proportion to its jobs and to the size of the values, with a look at each
-/// step of the main flow for each try and each thing that is settled. `lineage` and `forward` work out after the run what each of
+/// beside what the services take, its time grows in proportion to its jobs, to the size of the values, and to the combinations of a
+/// cross inside a dot or a prefix node, which are made before they are paired, with a look at each step of the main flow for each try
+/// and each thing that is settled. `lineage` and `forward` work out after the run what each of
 /// its jobs used, in near linear time.
 pub fn taverna_alone<S: Source, K: Sink, E: Sink, A: Asker>(
     alloc: Global,
@@ -43,8 +44,8 @@ pub fn taverna_alone<S: Source, K: Sink, E: Sink, A: Asker>(
     err: &mut E,
     asker: &mut A,
 ) -> Status
-    ensures promised { IsPromised ⟦<S as Source>⟧ ⟦<K as Sink>⟧ ⟦<E as Sink>⟧ (asked_for words.now)
-        (answer_of A.Services.gives A.Services.knows (asked_for words.now))
+    ensures promised { IsPromised ⟦<S as Source>⟧ ⟦<K as Sink>⟧ ⟦<E as Sink>⟧
+        A.Services.gives A.Services.knows (asked_for words.now)
         source.old source.new out.old out.new err.old err.new result }
     // What the services were asked, where the asker tells its calls: all that the answer takes, in the order of one worker, and
     // no more, whether or not it was written, or an element of an output wasn't there; nothing for another refusal; a beginning of it
@@ -80,8 +81,8 @@ pub fn taverna<
     gate: &G,
     asker: &mut A,
 ) -> Status
-    ensures promised { IsPromised ⟦<S as Source>⟧ ⟦<K as Sink>⟧ ⟦<E as Sink>⟧ (asked_for words.now)
-        (answer_of G.Services.gives G.Services.knows (asked_for words.now))
+    ensures promised { IsPromised ⟦<S as Source>⟧ ⟦<K as Sink>⟧ ⟦<E as Sink>⟧
+        G.Services.gives G.Services.knows (asked_for words.now)
         source.old source.new out.old out.new err.old err.new result }
     ensures asked { IsForOne (texts_of words.now)
         → IsAsked (asks_of G.Services.gives G.Services.knows (asked_for words.now))
@@ -99,6 +100,7 @@ fn finished<K: Sink, E: Sink>(answer: Result<Text, Refusal>, out: &mut K, err: &
         (sink_told ⟦<E as Sink>⟧ err.old err.new) result }
     ensures silent { OnErr answer (out.new ≡ out.old) }
     ensures unsaid { OnOk answer (result ≡ Status.Done → err.new ≡ err.old) }
+    ensures utf8 { IfOk answer (λ text. IsUtf8 text) }
 {
     match answer {
         Ok(text) => match write_all(out, text.as_str().as_bytes()) {

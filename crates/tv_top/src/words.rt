@@ -40,6 +40,8 @@ pub(crate) enum Reading {
     Check,
     /// Read a document, run it, and write which jobs asked how often.
     Trace,
+    /// Read a document, check it, and write the same document in format 2.
+    Upgrade,
     /// Read a document, run it, and write which elements of the inputs made this element of an output.
     Lineage { port: Name, place: Place },
     /// Read a document, run it, and write which leaves of the outputs used this element of an input.
@@ -95,6 +97,7 @@ fn requested(told: Told) -> Request
             port,
             place,
         })),
+        Told::Upgrade => Request::One(Command::Of(Reading::Upgrade)),
         Told::Gen { number, workers } => if workers > 1 {
             Request::Gen { number, workers }
         } else {

@@ -26,7 +26,7 @@ use Rattle.tv_model.proofs.Sound.{StandsAt, all-stand as nodes-all-stand, nodes-
 use Rattle.tv_frame.specs.Levels.{What}
 use Rattle.tv_frame.specs.MainSteps.{main_steps}
 use Rattle.tv_model.specs.records.Recorded.{main_records}
-use Rattle.tv_traces.specs.OfNodes.{IsBuilt, Telling, Tells}
+use Rattle.tv_traces.specs.OfNodes.{IsWalked, Telling, Tells}
 use Rattle.tv_traces.specs.Feeds.{job_at}
 use Rattle.tv_traces.specs.Seen.{AreSeen, IsSeen}
 use Rattle.tv_traces.specs.Settled.{records_of_settled}
@@ -118,15 +118,15 @@ module _ (gives : Giving) (d : Document) (flow : Flow) (is : IsMainFlow d flow) 
         node-job k x.0 (each_in (λ (y : Place × Iteration). StandsAt it y.0 y.1) (nodes it) (nodes-stand (StandsAt it) it [] (nodes-all-stand it it [] refl)) x.0 x.1) x.2
 
     -- with its shape and records one more is done
-    pub stage-next : (levels_of : ℕ) → levels_of ≡ strategy_depth (number_of (mismatches flow s.1)) (strategy_of s.1) → (u : Shape) → IsBuilt telling levels_of [] old now u → slice_index_or more n no_shape ≡ u → ((k : ℕ) → (k ≡ n → ⊥) → slice_index_or more k no_shape ≡ slice_index_or us k no_shape) → IsStage gives d flow known settled (suc r) now more
-    stage-next m e u built at_n others = record {
-      shapes = more-shown gives d flow is n r s here of_rank known settled us stage.shapes (what n) (done n) more (subst (λ v. ShowsKnown (job_at s.0) known [] v it) (sym at_n) told.0) others;
+    pub stage-next : (levels_of : ℕ) → levels_of ≡ strategy_depth (number_of (mismatches flow s.1)) (strategy_of s.1) → (u : Shape) → IsWalked telling s levels_of old now u → slice_index_or more n no_shape ≡ u → ((k : ℕ) → (k ≡ n → ⊥) → slice_index_or more k no_shape ≡ slice_index_or us k no_shape) → IsStage gives d flow known settled (suc r) now more
+    stage-next m e u walked at_n others = record {
+      shapes = more-shown gives d flow is n r s here of_rank known settled us stage.shapes (what n) (done n) more (λ some. subst (λ v. ShowsKnown (job_at s.0) known [] v it) (sym at_n) (told.0 some)) others;
       own = λ x i. by x (told.1.only x i);
       all = λ f i k j z. each f (subst (In f) (until-next gives d flow is r s (at-rank gives d flow is n r s here of_rank)) i) k j z;
     }
       where
-        told : ShowsKnown (job_at s.0) known [] u it × IsNoted (done n) s it (records_of old) (records_of now) × HaveRecords (done n) s.0 [] it (records_of now)
-        told = built.told known s it tells it refl (subst (Rattle.tv_strategy.specs.Levels.HasLevels it) (sym e) (new-levels gives d flow is n r s here of_rank))
+        told : ((s.1.outputs ≡ [] → ⊥) → ShowsKnown (job_at s.0) known [] u it) × IsNoted (done n) s it (records_of old) (records_of now) × HaveRecords (done n) s.0 [] it (records_of now)
+        told = walked.told known it tells (subst (Rattle.tv_strategy.specs.Levels.HasLevels it) (sym e) (new-levels gives d flow is n r s here of_rank))
 
         by : (x : Record) → In x (records_of old) ⊎ IsRecordOf (done n) s it x → In x (main_records (meaning gives d)) × (settled x.job ≡ true)
         by x (inl i) = stage.own x i

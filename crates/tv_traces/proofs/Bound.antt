@@ -1,7 +1,7 @@
 -- What a job binds used what is told of its ports, and so did a passed fault.
 use Rattle.std.specs.List.{cons_option, list_all, list_any}
 use Rattle.std.specs.Option.{option_map_or}
-use Rattle.std.specs.Prelude.{◌≡◌, refl, ℕ, zero, suc, ◌+◌, ◌-◌, ◌≤◌, ◌<◌, ◌==◌, ◌&&◌, Bool, true, false, cond, drop, filter_map, find, flat_map, if◌then◌else◌, length, List, [], ◌∷◌, ◌++◌, map, Option, Some, None, option_and_then, option_map, slice_get, slice_index_or, take, unwrap_or}
+use Rattle.std.specs.Prelude.{◌≡◌, refl, ℕ, zero, suc, ◌-◌, ◌≤◌, ◌<◌, ◌==◌, ◌&&◌, Bool, true, false, cond, drop, filter_map, find, flat_map, if◌then◌else◌, length, List, [], ◌∷◌, ◌++◌, map, Option, Some, None, option_and_then, option_map, slice_get, slice_index_or, take, unwrap_or}
 use Rattle.std.proofs.Common.{arith, sym, ap, ap₂, subst, ◌∙◌, inl, inr}
 use Rattle.std.proofs.Math.Path.{fun_ext}
 use Rattle.std.proofs.lemmas.Bool.{and_parts, eq-eqb, eqb-true, true≢false}
@@ -12,14 +12,14 @@ use Rattle.tv_lemmas.specs.Members.{Each, In}
 use Rattle.tv_lemmas.proofs.Members.{in_each}
 use Rattle.tv_value.specs.Nested.{leaf, list, Place, at, item_at, notes}
 use Rattle.tv_value.specs.Orders.{named, same_name}
-use Rattle.tv_value.specs.Strategies.{Strategies, Strategy, cross, dot, no_strategies, port, strategy}
+use Rattle.tv_value.specs.Strategies.{Strategy}
 use Rattle.tv_value.specs.Values.{Name, fault}
 use Rattle.tv_flow.specs.Flows.{Feed, Flow, Step, StepInput}
 use Rattle.tv_lineage.specs.Touching as marks
 use Rattle.tv_strategy.specs.Conditions.{EachOnce, number_of, place_of, times}
 use Rattle.tv_strategy.specs.Iterations.{Binding, Iteration, job, passed, walk}
 use Rattle.tv_strategy.specs.Levels.{HasLevels, IsJob}
-use Rattle.tv_strategy.specs.Measures.{all_leaf_names, leaf_names, strategy_depth}
+use Rattle.tv_strategy.specs.Measures.{leaf_names, strategy_depth}
 use Rattle.tv_strategy.specs.Origins.{Mark, Origin, Traced, fixed}
 use Rattle.tv_strategy.specs.Splits.{split}
 use Rattle.tv_strategy.proofs.AtDepth.{iteration-levels}
@@ -33,7 +33,8 @@ use Rattle.tv_check.specs.declared.ports.Port.{Port}
 use Rattle.tv_check.specs.Feeds.{feed_numbered}
 use Rattle.tv_check.specs.Ports.{leaf_number, levels_of, mismatches, port_among, ports_of}
 use Rattle.tv_matching.specs.Told.{Spot}
-use Rattle.tv_frame.specs.Starts.{cross_starts, dot_starts, starts}
+use Rattle.tv_frame.specs.Starts.{starts}
+use Rattle.tv_frame.proofs.FaultingSteps.{starts-names}
 use Rattle.tv_frame.proofs.StartLemmas.{places-split}
 use Rattle.tv_model.specs.instance.ByResults.{InstanceStep, ports_on}
 use Rattle.tv_model.specs.Lineages.{mark_or, used}
@@ -98,29 +99,6 @@ module _ (ports : Name → ℕ) (q : Place) where
       by true t j rec = ap (λ n. take (ports n) (drop x.1 q)) (sym (same-equal p x.0 t))
       by false t (inl s) rec = absurd (true≢false (sym (subst (λ n. same_name p n ≡ true) s (same-itself p)) ∙ t))
       by false t (inr j) rec = rec j
-
--- the leaves, from left to right
-module _ (ports : Name → ℕ) where
-  abbrev firsts : List (Name × ℕ) → List Name
-  firsts xs = map (λ (y : Name × ℕ). y.0) xs
-
-  mutual
-    starts-names : (s : Strategy) (begin : ℕ) → firsts (starts ports begin s) ≡ leaf_names s
-    starts-names (port p) begin = refl
-    starts-names (cross cs) begin = cross-names cs begin
-    starts-names (dot cs) begin = dot-names cs begin
-
-    cross-names : (cs : Strategies) (begin : ℕ) → firsts (cross_starts ports begin cs) ≡ all_leaf_names cs
-    cross-names no_strategies begin = refl
-    cross-names (strategy c cs) begin =
-        map-append (λ (y : Name × ℕ). y.0) (starts ports begin c) (cross_starts ports (begin + strategy_depth ports c) cs)
-        ∙ ap₂ (λ a b. a ++ b) (starts-names c begin) (cross-names cs (begin + strategy_depth ports c))
-
-    dot-names : (cs : Strategies) (begin : ℕ) → firsts (dot_starts ports begin cs) ≡ all_leaf_names cs
-    dot-names no_strategies begin = refl
-    dot-names (strategy c cs) begin =
-        map-append (λ (y : Name × ℕ). y.0) (starts ports begin c) (dot_starts ports begin cs)
-        ∙ ap₂ (λ a b. a ++ b) (starts-names c begin) (dot-names cs begin)
 
 -- ---- inputs by name
 
@@ -358,7 +336,7 @@ module _ (known : Origin → Bool) (flow : Flow) (s : Name × Step) (f : Instanc
         start-is = ap (λ (g : Name → ℕ). slice_index_or (map (λ (y : Name × ℕ). y.1) (starts g 0 tree)) k 0) numbers-are ∙ begins-at (starts levels 0 tree) k (c.port, c.start) c.begins
 
         leaf-is : slice_get leaves k ≡ Some c.port
-        leaf-is = ap (λ ns. slice_get ns k) (sym (starts-names levels tree 0)) ∙ name-at (starts levels 0 tree) k (c.port, c.start) c.begins
+        leaf-is = ap (λ ns. slice_get ns k) (sym (starts-names levels 0 tree)) ∙ name-at (starts levels 0 tree) k (c.port, c.start) c.begins
 
         below : (a b : ℕ) → a < b → a ≤ b
         below a b h = omega arith

@@ -38,10 +38,10 @@ use Rattle.tv_traces.proofs.GrowingLemmas.{in-front, in-end}
 
 -- ---- notes
 
-noted-none : (d : Place → Bool) (s : Name × Step) (it : Iteration) (rs : List Record) → IsNoted d s it rs rs
+pub noted-none : (d : Place → Bool) (s : Name × Step) (it : Iteration) (rs : List Record) → IsNoted d s it rs rs
 noted-none d s it rs = record { only = λ r i. inl i; kept = λ r i. i }
 
-noted-on : (d : Place → Bool) (s : Name × Step) (it : Iteration) (a b c : List Record) → IsNoted d s it a b → IsNoted d s it b c → IsNoted d s it a c
+pub noted-on : (d : Place → Bool) (s : Name × Step) (it : Iteration) (a b c : List Record) → IsNoted d s it a b → IsNoted d s it b c → IsNoted d s it a c
 noted-on d s it a b c h k = record {
   only = λ r i. by r (k.only r i);
   kept = λ r i. k.kept r (h.kept r i);
@@ -287,7 +287,7 @@ module _ (t : Telling) where
       less : (a b : ℕ) → suc a < suc b → a < b
       less a b e = omega arith
 
-  some-item : (ns : Iterations) (i : ℕ) → i < count ns → (n : Iteration) × (item_at ns i ≡ Some n)
+  pub some-item : (ns : Iterations) (i : ℕ) → i < count ns → (n : Iteration) × (item_at ns i ≡ Some n)
   some-item no_trees i h = absurd (zero-less i h)
   some-item (tree n ns) zero h = (n, refl)
   some-item (tree n ns) (suc i) h = some-item ns i (less i (count ns) h)
@@ -295,7 +295,7 @@ module _ (t : Telling) where
       less : (a b : ℕ) → suc a < suc b → a < b
       less a b e = omega arith
 
-  at-item : (it : Iteration) (q : Place) (r : List Origin) (ns : Iterations) (i : ℕ) → at it q ≡ Some (list r ns) → at it (q ++ i ∷ []) ≡ item_at ns i
+  pub at-item : (it : Iteration) (q : Place) (r : List Origin) (ns : Iterations) (i : ℕ) → at it q ≡ Some (list r ns) → at it (q ++ i ∷ []) ≡ item_at ns i
   at-item it [] r ns i e = itself (item_at (children it) i) ∙ ap (λ u. item_at (children u) i) (same_Some it (list r ns) e)
     where
       itself : (o : Option Iteration) → option_and_then (λ u. Some u) o ≡ o

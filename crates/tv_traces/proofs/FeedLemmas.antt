@@ -111,16 +111,16 @@ module _ (known : Origin → Bool) (flow : Flow) (vs : List (Name × Value)) (fs
       by true k rec = sym (ap (map mark_of) (input-at i.0 [] (value_given vs i.0) q w k))
       by false k rec = rec k
 
-  -- the outputs of a step, from any on
-  outputs-told : (n : Name) (gives : ℕ → Place → Value) (levels : ℕ) (it : Iteration) (q : Place) (w : Traced) (ms : List marks.Mark) → ((k d : ℕ) → at (output_below (spot [] n) (gives k) d [] levels it) q ≡ Some w → ms ≡ marks_of w) → (o : Name) (k : ℕ) (ps : List (Name × ℕ)) → at (unwrap_or (named o (outputs_by [] n gives levels it k ps)) nothing_delivered).value q ≡ Some w → option_map_or (λ (p : Name × ℕ). ms) (slice_get ps (position o ps)) [] ≡ marks_of w
-  outputs-told n gives levels it q w ms f o k [] e = sym (nothing-at q w e)
-  outputs-told n gives levels it q w ms f o k (p ∷ ps) e = by (same_name o p.0) e (outputs-told n gives levels it q w ms f o (suc k) ps)
+  -- the outputs of a step, from any on; P is so where there is one
+  outputs-told : (n : Name) (gives : ℕ → Place → Value) (levels : ℕ) (it : Iteration) (q : Place) (w : Traced) (ms : List marks.Mark) (P : Type 0) → (P → (k d : ℕ) → at (output_below (spot [] n) (gives k) d [] levels it) q ≡ Some w → ms ≡ marks_of w) → (o : Name) (k : ℕ) (ps : List (Name × ℕ)) → ((p : Name × ℕ) (rs : List (Name × ℕ)) → ps ≡ p ∷ rs → P) → at (unwrap_or (named o (outputs_by [] n gives levels it k ps)) nothing_delivered).value q ≡ Some w → option_map_or (λ (p : Name × ℕ). ms) (slice_get ps (position o ps)) [] ≡ marks_of w
+  outputs-told n gives levels it q w ms P f o k [] some e = sym (nothing-at q w e)
+  outputs-told n gives levels it q w ms P f o k (p ∷ ps) some e = by (same_name o p.0) e (outputs-told n gives levels it q w ms P f o (suc k) ps (λ r rs h. some p ps refl))
     where
       rest : List (Name × Delivered)
       rest = outputs_by [] n gives levels it (suc k) ps
 
       by : (b : Bool) → at (unwrap_or (if b then Some (record { depth = levels + p.1; value = output_below (spot [] n) (gives k) p.1 [] levels it }) else named o rest) nothing_delivered).value q ≡ Some w → (at (unwrap_or (named o rest) nothing_delivered).value q ≡ Some w → option_map_or (λ (r : Name × ℕ). ms) (slice_get ps (position o ps)) [] ≡ marks_of w) → option_map_or (λ (r : Name × ℕ). ms) (slice_get (p ∷ ps) (if b then 0 else suc (position o ps))) [] ≡ marks_of w
-      by true h rec = f k p.1 h
+      by true h rec = f (some p ps refl) k p.1 h
       by false h rec = rec h
 
   there-told : (n : Name) (w : Traced) (x : Option (Place × Shape)) → UsedThere (job_at n) w x → option_map_or (λ (y : Place × Shape). node_marks n y.0 y.1) x [] ≡ marks_of w
@@ -154,7 +154,10 @@ module _ (known : Origin → Bool) (flow : Flow) (vs : List (Name × Value)) (fs
       by true k rec = ap (λ z. Some z.1) (same_Some y (n, x) k)
       by false k rec = rec k
 
-  made-told : (t o : Name) (g : InstanceStep) → IsStepOf flow g → t ≡ g.step.step → ShowsKnown (job_at g.step.step) known [] (slice_index_or shapes (position t flow.steps) no_shape) g.step.iteration → (q : Place) (w : Traced) → IsWhole w → at (unwrap_or (named o g.step.outputs) nothing_delivered).value q ≡ Some w → told (output t o) q ≡ marks_of w
+  some-out : (x : Name × Delivered) (xs : List (Name × Delivered)) → [] ≡ x ∷ xs → ⊥
+  some-out x xs h = cc
+
+  made-told : (t o : Name) (g : InstanceStep) → IsStepOf flow g → t ≡ g.step.step → ShapeOf known (Some g) (slice_index_or shapes (position t flow.steps) no_shape) → (q : Place) (w : Traced) → IsWhole w → at (unwrap_or (named o g.step.outputs) nothing_delivered).value q ≡ Some w → told (output t o) q ≡ marks_of w
   made-told t o g s same shows q w whole e =
       let n = position t flow.steps in
       let u = slice_index_or shapes n no_shape in
@@ -162,10 +165,10 @@ module _ (known : Origin → Bool) (flow : Flow) (vs : List (Name × Value)) (fs
       let outs : outputs_of flow t ≡ s.step.outputs = ap (λ p. option_map_or (λ (r : Step). r.outputs) p []) (named-number t flow.steps s.step here) in
       ap (λ j. output_told node_marks flow shapes n j q) (ap (position o) outs)
       ∙ ap (λ p. option_map_or (λ (r : Name × Step). option_map_or (λ (p : Name × ℕ). option_map_or (λ (x : Place × Shape). node_marks r.0 x.0 x.1) (reached [] u q) []) (slice_get r.1.outputs (position o s.step.outputs)) []) p []) here
-      ∙ outputs-told t s.gives s.levels g.step.iteration q w (option_map_or (λ (x : Place × Shape). node_marks t x.0 x.1) (reached [] u q) [])
-      (λ k d h. there-told t w (reached [] u q) (used-at (spot [] t) (s.gives k) d u g.step.iteration [] s.levels q
-      (subst (λ m. ShowsKnown (job_at m) known [] u g.step.iteration) (sym same) shows q (sym (output-at (spot [] t) known (s.gives k) d g.step.iteration [] s.levels q w h) ∙ whole)) w h))
-      o 0 s.step.outputs
+      ∙ outputs-told t s.gives s.levels g.step.iteration q w (option_map_or (λ (x : Place × Shape). node_marks t x.0 x.1) (reached [] u q) []) (g.step.outputs ≡ [] → ⊥)
+      (λ some k d h. there-told t w (reached [] u q) (used-at (spot [] t) (s.gives k) d u g.step.iteration [] s.levels q
+      (subst (λ m. ShowsKnown (job_at m) known [] u g.step.iteration) (sym same) (shows some) q (sym (output-at (spot [] t) known (s.gives k) d g.step.iteration [] s.levels q w h) ∙ whole)) w h))
+      o 0 s.step.outputs (λ p rs h none. some-out _ _ (sym none ∙ s.outputs ∙ ap (outputs_by [] g.step.step s.gives s.levels g.step.iteration 0) h))
       (subst (λ m. at (unwrap_or (named o (outputs_by [] m s.gives s.levels g.step.iteration 0 s.step.outputs)) nothing_delivered).value q ≡ Some w) (sym same) (subst (λ os. at (unwrap_or (named o os) nothing_delivered).value q ≡ Some w) s.outputs e))
 
   found-is : (t : Name) (gs : List InstanceStep) (g : InstanceStep) → find (λ (g : InstanceStep). same_name t g.step.step) gs ≡ Some g → In g gs × (t ≡ g.step.step)

@@ -6,8 +6,8 @@ use Rattle.tv_traces.proofs.Known.{main-known}
 use Rattle.tv_traces.proofs.Tables.{so_far-seen, whole-seen}
 
 pub stages-go_on : StagesGoOn
-stages-go_on gives d flow is known settled what done seen n r s here rank old now us more stage u built at_n others =
-    stage-next gives d flow is known settled what done seen n r s here rank old now us more stage _ refl u built at_n others
+stages-go_on gives d flow is known settled what done seen n r s here rank old now us more stage u walked at_n others =
+    stage-next gives d flow is known settled what done seen n r s here rank old now us more stage _ refl u walked at_n others
 
 pub records-are_of_main_jobs : RecordsAreOfMainJobs
 records-are_of_main_jobs gives d flow is known settled k us stage = stage-end gives d flow is known settled k us stage

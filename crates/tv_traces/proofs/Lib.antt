@@ -18,6 +18,7 @@ pub mod Records
 pub mod Groups
 pub mod Outputs
 pub mod BuildingLemmas
+pub mod RowLemmas
 pub mod Adding
 pub mod LawLemmas
 pub mod Known

@@ -48,8 +48,8 @@ module _ (p : FlowPlan) (k : ℕ) (lt : k < length p.steps) where
         let r = step-of p k q (get-read p.steps k q lt (is ∙ ap (λ l. get_or l k q) e)) in
         plan-of (flow_view p.flow) s q (r.1.1 ∙ ap (plan.step_plan (flow_view p.flow)) (same_Some r.0 s (sym r.1.0 ∙ here)))
 
-    pub step-name : (xs : List (Name × Step)) → xs ≡ p.flow.steps → (x : Name × Step) → x ≡ get_or xs k x → x.0 ≡ s.0
-    step-name xs e x is = ap (λ (y : Name × spec.Step). y.0) (same_Some (x.0, step_view x.1) s (sym (get-map_read (λ (y : Name × Step). (y.0, step_view y.1)) p.flow.steps k x in-code (is ∙ ap (λ l. get_or l k x) e)) ∙ here))
+    pub step-entry : (xs : List (Name × Step)) → xs ≡ p.flow.steps → (x : Name × Step) → x ≡ get_or xs k x → (x.0, step_view x.1) ≡ s
+    step-entry xs e x is = same_Some (x.0, step_view x.1) s (sym (get-map_read (λ (y : Name × Step). (y.0, step_view y.1)) p.flow.steps k x in-code (is ∙ ap (λ l. get_or l k x) e)) ∙ here)
 
     pub step-ports : (xs : List (List Port)) → xs ≡ p.wiring.ports → (x : List Port) → x ≡ get_or xs k x → x ≡ ports_of (flow_view p.flow) s.1
     step-ports xs e x is =

@@ -8,7 +8,7 @@ use Rattle.std.proofs.lemmas.Option.{none-some, same_Some}
 use Rattle.tv_lemmas.specs.Members.{Each}
 use Rattle.tv_value.specs.Nested.{Place, Trees, all_notes, at, item_at, leaf, list, map_trees, no_trees, notes, tree}
 use Rattle.tv_value.specs.Orders.{named, same_name}
-use Rattle.tv_value.specs.Strategies.{Strategies, Strategy, cross, dot, no_strategies, port, strategy}
+use Rattle.tv_value.specs.Strategies.{Strategies, Strategy, cross, dot, prefix, no_strategies, port, strategy}
 use Rattle.tv_value.specs.Values.{Name, Scalar, fault, text}
 use Rattle.tv_strategy.specs.Iterations.{Binding, End, Iteration, Iterations, added, cross_of, crossed, crossed_end, dot_of, each_crossed, each_paired, end_with, iteration, job, paired, paired_end, passed, stopped, walk, walk_each}
 use Rattle.tv_strategy.specs.Origins.{Origin, Traced}
@@ -111,6 +111,7 @@ module _ (P : Origin → Type 0) where
       iteration-bind (port p) = fed p
       iteration-bind (cross cs) = cross_of-bind cs
       iteration-bind (dot cs) = dot_of-bind cs
+      iteration-bind (prefix l r) = paired-bind (iteration ports l) (iteration ports r) (iteration-bind l) (iteration-bind r)
 
       cross_of-bind : (cs : Strategies) → JobsBind (cross_of ports cs)
       cross_of-bind no_strategies = λ h. tt

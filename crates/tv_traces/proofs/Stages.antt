@@ -27,7 +27,7 @@ use Rattle.tv_model.specs.instance.Steps.{port_iteration, port_mismatch, strateg
 use Rattle.tv_check.specs.Feeds.{feed_numbered}
 use Rattle.tv_check.specs.Ports.{mismatches, ports_of}
 use Rattle.tv_matching.proofs.Members.{in-permutes}
-use Rattle.tv_model.specs.instance.ByResults.{InstanceStep, Results, step_by, step_of, steps_by}
+use Rattle.tv_model.specs.instance.ByResults.{InstanceStep, Results, outputs_by, step_by, step_of, steps_by}
 use Rattle.tv_frame.proofs.instances.Meant.{own_results-are_of_depth}
 use Rattle.tv_model.specs.Agreeing.{Agrees, NestsWithin, StepsNest}
 use Rattle.tv_model.specs.Instances.{given_of}
@@ -228,11 +228,14 @@ module _ (gives : Giving) (d : Document) (flow : Flow) (is : IsMainFlow d flow) 
           bind q r' b e z = seen.bind q r' b e (sym (seen.jobs q r' b e) ∙ z)
 
       -- with its shape the shapes are those of one step more
-      pub more-shown : (more : List Shape) → ShowsKnown (job_at s.0) known [] (slice_index_or more n no_shape) new.step.iteration → ((k : ℕ) → (k ≡ n → ⊥) → slice_index_or more k no_shape ≡ slice_index_or shapes k no_shape) → AreShapesOf known flow (until (suc r)) more
+      pub more-shown : (more : List Shape) → ((s.1.outputs ≡ [] → ⊥) → ShowsKnown (job_at s.0) known [] (slice_index_or more n no_shape) new.step.iteration) → ((k : ℕ) → (k ≡ n → ⊥) → slice_index_or more k no_shape ≡ slice_index_or shapes k no_shape) → AreShapesOf known flow (until (suc r)) more
       more-shown more h same t = subst (λ gs. ShapeOf known (find (λ (g : InstanceStep). same_name t g.step.step) gs) (slice_index_or more (position t flow.steps) no_shape)) (sym (until-next r s at-rank)) (by (same_name t s.0) refl)
         where
           number : position s.0 flow.steps ≡ n
           number = position-at_number flow.steps apart n s here
+
+          no-outputs : s.1.outputs ≡ [] → new.step.outputs ≡ []
+          no-outputs o = ap (outputs_by [] s.0 _ _ new.step.iteration 0) o
 
           other : same_name t s.0 ≡ false → position t flow.steps ≡ n → ⊥
           other e f = differ (named-first t flow.steps s (ap (slice_get flow.steps) f ∙ here)) e
@@ -252,5 +255,5 @@ module _ (gives : Giving) (d : Document) (flow : Flow) (is : IsMainFlow d flow) 
                   no h = cc
 
           by : (b : Bool) → same_name t s.0 ≡ b → ShapeOf known (cond b (Some new) (find (λ (g : InstanceStep). same_name t g.step.step) (until r))) (slice_index_or more (position t flow.steps) no_shape)
-          by true e = subst (λ k. ShowsKnown (job_at s.0) known [] (slice_index_or more k no_shape) new.step.iteration) (sym (ap (λ m. position m flow.steps) (same_name-is t s.0 e) ∙ number)) h
+          by true e = λ some. subst (λ k. ShowsKnown (job_at s.0) known [] (slice_index_or more k no_shape) new.step.iteration) (sym (ap (λ m. position m flow.steps) (same_name-is t s.0 e) ∙ number)) (h (λ o. some (no-outputs o)))
           by false e = subst (ShapeOf known (find (λ (g : InstanceStep). same_name t g.step.step) (until r))) (sym (same (position t flow.steps) (other e))) (shown t)

@@ -34,7 +34,7 @@ use Rattle.tv_frame.proofs.matches.Ranks.{ranked-permutes}
 use Rattle.tv_lemmas.proofs.Members.{get-in as in-at}
 use Rattle.tv_frame.proofs.Order.{rank-is}
 use Rattle.tv_frame.proofs.TableLemmas.{as-many-steps, plan-wired, step-of}
-use Rattle.tv_traces.specs.OfNodes.{IsBuilt}
+use Rattle.tv_traces.specs.OfNodes.{IsWalked}
 use Rattle.tv_traces.specs.Feeds.{job_at}
 use Rattle.tv_traces.specs.Grouped.{AllAreGrouped, Grows, IsGrouped}
 use Rattle.tv_traces.specs.Shapes.{Shape, no_shape}
@@ -91,7 +91,7 @@ set-there (v ∷ us) (suc n) zero u h = refl
 set-there (v ∷ us) (suc n) (suc k) u h = set-there us n k u (λ e. h (ap suc e))
 
 module _ (p : FlowPlan) (n r : ℕ) (lt : n < length p.steps) (rank : (q : StepPlan) → slice_get p.steps n ≡ Some q → q.rank ≡ r) (what : ℕ → Place → Option What) (done : ℕ → Place → Bool) (old now : Kept) (us vs : List Node) (u : Node) (long : length us ≡ length p.steps) (is : vs ≡ set us n u)
-    (built : (s : Name × spec.Step) → slice_get (flow_view p.flow).steps n ≡ Some s → IsBuilt (telling_of (flow_view p.flow) (shapes_view us) (what n) (done n) s) (strategy_depth (number_of (mismatches (flow_view p.flow) s.1)) (strategy_of s.1)) [] old now (node_view u)) where
+    (walked : (s : Name × spec.Step) → slice_get (flow_view p.flow).steps n ≡ Some s → IsWalked (telling_of (flow_view p.flow) (shapes_view us) (what n) (done n) s) s (strategy_depth (number_of (mismatches (flow_view p.flow) s.1)) (strategy_of s.1)) old now (node_view u)) where
   abbrev flow : spec.Flow
   flow = flow_view p.flow
 
@@ -114,19 +114,19 @@ module _ (p : FlowPlan) (n r : ℕ) (lt : n < length p.steps) (rank : (q : StepP
   pub more-staged : (known : Origin → Bool) (settled : JobName → Bool) (gives : Giving) (d : Document) → IsMainFlow d flow → AreSeen known settled flow (main_steps (meaning gives d)) what done → IsStage gives d flow known settled r old (shapes_view us) → IsStage gives d flow known settled (suc r) now (shapes_view vs)
   more-staged known settled gives d is seen stage =
       stage-next gives d flow is known settled what done seen n r here.0 here.1 of-rank old now (shapes_view us) (shapes_view vs) stage
-      (strategy_depth (number_of (mismatches flow here.0.1)) (strategy_of here.0.1)) refl (node_view u) (built here.0 here.1) at-n others
+      (strategy_depth (number_of (mismatches flow here.0.1)) (strategy_of here.0.1)) refl (node_view u) (walked here.0 here.1) at-n others
 
   pub more-grouped : AllAreGrouped flow old.groups (shapes_view us) → AllAreGrouped flow now.groups (shapes_view vs)
   more-grouped all k s h = by (cases_eq k n)
     where
       grown : Grows old.groups now.groups
-      grown = (built here.0 here.1).grows
+      grown = (walked here.0 here.1).grows
 
       by : (k ≡ n) ⊎ (k ≡ n → ⊥) → IsGrouped (job_at s.0) now.groups [] (slice_index_or (shapes_view vs) k no_shape)
       by (inl e) =
           let same : here.0 ≡ s = same_Some here.0 s (sym here.1 ∙ ap (slice_get flow.steps) (sym e) ∙ h) in
           subst (λ (z : Name × spec.Step). IsGrouped (job_at z.0) now.groups [] (slice_index_or (shapes_view vs) k no_shape)) same
-          (subst (IsGrouped (job_at here.0.0) now.groups []) (sym (ap (λ i. slice_index_or (shapes_view vs) i no_shape) e ∙ at-n)) (built here.0 here.1).grouped)
+          (subst (IsGrouped (job_at here.0.0) now.groups []) (sym (ap (λ i. slice_index_or (shapes_view vs) i no_shape) e ∙ at-n)) (walked here.0 here.1).grouped)
       by (inr f) = subst (IsGrouped (job_at s.0) now.groups []) (sym (others k f)) (all-grow flow old.groups now.groups (shapes_view us) grown all k s h)
 
 -- ---- each rank is that of a step

@@ -5,6 +5,7 @@ pub mod Growing
 pub mod Sights
 pub mod Building
 pub mod Stepping
+pub mod Rows
 pub mod Shapes
 pub mod Feeds
 pub mod Walking

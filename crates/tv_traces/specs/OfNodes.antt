@@ -17,6 +17,10 @@ use Rattle.tv_traces.specs.Shapes.{Shape, ShowsKnown, shapes_used}
 use Rattle.tv_traces.specs.Noted.{HaveRecords, IsNoted}
 use Rattle.tv_traces.specs.Walking.{IsToldOf}
 
+-- a job stands there
+abbrev pub IsJobAt : Iteration → Place → Type 0
+IsJobAt it q = (r : List Origin) × (b : Binding) × (at it q ≡ Some (leaf r (job b)))
+
 -- a step of this name, fed by shapes through ports, of whose lists, faults and settled jobs this is told
 pub record Telling : Type 0 where
   pub flow : Flow
@@ -50,6 +54,16 @@ module _ (t : Telling) where
         → IsNoted t.settled s it (records_of old) (records_of new)
         × (t.settled q ≡ true → (x : Record) × In x (records_of new) × (x.job ≡ job_at s.0 q))
 
+  -- so were the jobs at these places
+  pub record AreNoted (qs : List Place) (old new : Kept) : Type 0 where
+    pub grows : Grows old.groups new.groups
+    pub told :
+        (known : Origin → Bool) (s : Name × Step) (it : Iteration) → Tells known s it
+        → ((q : Place) → In q qs → IsJobAt it q)
+        → IsNoted t.settled s it (records_of old) (records_of new)
+        × ((q : Place) → In q qs → t.settled q ≡ true
+        → (x : Record) × In x (records_of new) × (x.job ≡ job_at s.0 q))
+
   -- the node at q above so many levels has this shape, and the settled jobs there were noted
   pub record IsBuilt (levels : ℕ) (q : Place) (old new : Kept) (u : Shape) : Type 0 where
     pub grows : Grows old.groups new.groups
@@ -77,3 +91,13 @@ module _ (t : Telling) where
         → at (list r ns) (i ∷ p) ≡ Some (leaf src (job b))
         → t.settled (q ++ (i ∷ p)) ≡ true → (x : Record) × In x (records_of new)
         × (x.job ≡ job_at s.0 (q ++ (i ∷ p))))
+
+  -- step s, whose iteration has so many levels, was gone through: its settled jobs were noted, and if it has outputs, it has this shape
+  pub record IsWalked (s : Name × Step) (levels : ℕ) (old new : Kept) (u : Shape) : Type 0 where
+    pub grows : Grows old.groups new.groups
+    pub grouped : IsGrouped (job_at t.name) new.groups [] u
+    pub told :
+        (known : Origin → Bool) (it : Iteration) → Tells known s it → HasLevels it levels
+        → ((s.1.outputs ≡ [] → ⊥) → ShowsKnown (job_at s.0) known [] u it)
+        × IsNoted t.settled s it (records_of old) (records_of new)
+        × HaveRecords t.settled s.0 [] it (records_of new)

@@ -19,10 +19,11 @@ pub record IsStepOf (flow : Flow) (g : InstanceStep) : Type 0 where
   pub outputs : g.step.outputs
       ≡ outputs_by [] g.step.step gives levels g.step.iteration 0 step.outputs
 
--- the shape of what is known of a step that was made, and none of one that was not
+-- the shape of what is known of a step that was made and has outputs, and none of one that was not
 abbrev pub ShapeOf : (Origin → Bool) → Option InstanceStep → Shape → Type 0
 ShapeOf known None u = u ≡ no_shape
-ShapeOf known (Some g) u = ShowsKnown (job_at g.step.step) known [] u g.step.iteration
+ShapeOf known (Some g) u =
+    (g.step.outputs ≡ [] → ⊥) → ShowsKnown (job_at g.step.step) known [] u g.step.iteration
 
 -- these are the shapes of the steps that were made, by number
 abbrev pub AreShapesOf : (Origin → Bool) → Flow → List InstanceStep → List Shape → Type 0

@@ -22,7 +22,7 @@ use Rattle.tv_forest.specs.views.InRun.{IsInRun}
 use Rattle.tv_model.specs.Meanings.{meaning}
 use Rattle.tv_frame.specs.Levels.{AreLevels, Level, What}
 use Rattle.tv_frame.specs.MainSteps.{main_steps}
-use Rattle.tv_traces.specs.OfNodes.{IsBuilt}
+use Rattle.tv_traces.specs.OfNodes.{IsWalked}
 use Rattle.tv_traces.specs.KnownInRun.{AreJobsTold, AreLevelsTold}
 use Rattle.tv_traces.specs.Seen.{AreKnownBy, AreSeen, Spot}
 use Rattle.tv_traces.specs.Settled.{records_of_settled}
@@ -43,7 +43,7 @@ StagesGoOn =
     → position s.0 (ranked flow.steps) ≡ r
     → (old now : Kept) (us more : List Shape) → IsStage gives d flow known settled r old us
     → (u : Shape)
-    → IsBuilt (record {
+    → IsWalked (record {
       flow = flow;
       shapes = us;
       ports = ports_of flow s.1;
@@ -52,7 +52,7 @@ StagesGoOn =
       settled = done n;
       name = s.0;
     })
-    (strategy_depth (number_of (mismatches flow s.1)) (strategy_of s.1)) [] old now u
+    s (strategy_depth (number_of (mismatches flow s.1)) (strategy_of s.1)) old now u
     → slice_index_or more n no_shape ≡ u
     → ((k : ℕ) → (k ≡ n → ⊥) → slice_index_or more k no_shape ≡ slice_index_or us k no_shape)
     → IsStage gives d flow known settled (suc r) now more

@@ -111,7 +111,7 @@ fn fault_marks(alloc: Global, walk: &Walk<'_>, leaf: u32, place: &[u32]) -> Resu
 }
 
 /// Notes what the job at a place used, where it is settled, and unless it is noted.
-fn note_job(
+pub(crate) fn note_job(
     alloc: Global,
     walk: &Walk<'_>,
     records: &mut Records,
@@ -133,7 +133,7 @@ fn note_job(
 }
 
 /// The node at a place above so many levels, and all inside, with the records of the jobs there. Linear in these and in what the
-/// jobs bind, with a look-up for each node and job.
+/// jobs bind, with a look-up for each node and job. It goes on inside by itself, level by level: a step with outputs has 32 at the most.
 #[cycle(building)]
 pub(crate) fn node_below(
     alloc: Global,

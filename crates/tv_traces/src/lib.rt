@@ -20,7 +20,7 @@
 //!
 //! - `traces`: the calls
 //! - `stepping`: the steps, one after another by rank
-//! - `building`: the shape of a step's iteration, and the records of its jobs
+//! - `building`: the shape of a step's iteration, and the records of its jobs; `jobs`: the records alone, of a step without outputs
 //! - `sight`: what is known of an instance, of which `table` has the levels by step and place, `growing` the lists that grow, and
 //!   `settled` the settled jobs
 //! - `feeds`, `used`: what feeds deliver at a place, as parts and as marks
@@ -33,6 +33,7 @@ mod building;
 mod copies;
 mod feeds;
 mod growing;
+mod jobs;
 pub mod laws;
 mod node;
 mod places;

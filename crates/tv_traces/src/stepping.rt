@@ -9,7 +9,8 @@ ghost use Rattle.tv_strategy.specs.Measures.{strategy_depth};
 ghost use Rattle.tv_model.specs.instance.Steps.{strategy_of};
 ghost use Rattle.tv_check.specs.Ports.{mismatches};
 ghost use Rattle.tv_check.specs.declared.plans.StepPlan.{StepPlan};
-ghost use Rattle.tv_traces.specs.OfNodes.{IsBuilt};
+ghost use Rattle.tv_traces.specs.OfNodes.{IsWalked};
+ghost use Rattle.tv_traces.specs.Building.{AreGrouped, telling};
 ghost use Rattle.tv_traces.specs.Grouped.{AllAreGrouped};
 ghost use Rattle.tv_traces.specs.Shapes.{no_shape};
 ghost use Rattle.tv_traces.specs.Stepping.{telling_of};
@@ -18,13 +19,14 @@ ghost use Rattle.tv_traces.specs.Views.{node_view, shapes_view};
 
 use crate::building::{Walk, node_below};
 use crate::feeds::Shown;
+use crate::jobs::note_jobs;
 use crate::node::Node;
 use crate::sight::Sight;
 use std::alloc::Global;
 use tv_check::FlowPlan;
 use tv_frame::leaf_starts;
 use tv_lineage::Records;
-use tv_value::{NoMemory, Place, Sequence};
+use tv_value::{Name, NoMemory, Place, Sequence};
 
 /// So many steps of which nothing is known.
 pub(crate) fn no_shapes(alloc: Global, count: usize) -> Result<Vec<Node>, NoMemory>
@@ -76,9 +78,9 @@ pub(crate) fn step_node(
         (shapes_view shapes.now) }
     ensures { IfOk result (λ u. (s : AName × Step)
         → slice_get (flow_view plan.now.flow).steps number ≡ Some s
-        → IsBuilt (telling_of (flow_view plan.now.flow) (shapes_view shapes.now)
+        → IsWalked (telling_of (flow_view plan.now.flow) (shapes_view shapes.now)
         (what_in sight.now number) (done_in sight.now number) s)
-        (strategy_depth (number_of (mismatches (flow_view plan.now.flow) s.1)) (strategy_of s.1)) []
+        s (strategy_depth (number_of (mismatches (flow_view plan.now.flow) s.1)) (strategy_of s.1))
         records.old records.new (node_view u)) }
 {
     let step = &plan.steps.as_slice()[number];
@@ -95,6 +97,32 @@ pub(crate) fn step_node(
         ports: plan.wiring.ports.as_slice()[number].as_slice(),
         starts: starts.as_slice(),
     };
+    walked(
+        alloc,
+        &walk,
+        records,
+        entry.1.outputs.as_slice(),
+        step.depth,
+    )
+}
+
+/// The shape of the step's iteration, if it has outputs, with the records of its jobs. Nothing is fed by a step without outputs, so
+/// nobody asks for its shape; and its iteration may be far deeper than that of a step with outputs, which is no deeper than a value.
+fn walked(
+    alloc: Global,
+    walk: &Walk<'_>,
+    records: &mut Records,
+    outputs: &[(Name, u32)],
+    levels: u32,
+) -> Result<Node, NoMemory>
+    requires { AreGrouped records.old.groups walk.now }
+    ensures { IfOk result (λ u. (s : AName × Step) → s.1.outputs ≡ outputs.now
+        → IsWalked (telling walk.now) s levels records.old records.new (node_view u)) }
+{
+    if outputs.is_empty() {
+        note_jobs(alloc, walk, records, levels)?;
+        return Ok(Node::Passed(Sequence::empty(alloc)));
+    }
     let top = Place::top(alloc);
-    node_below(alloc, &walk, records, step.depth, &top)
+    node_below(alloc, walk, records, levels, &top)
 }

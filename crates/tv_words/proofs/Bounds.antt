@@ -5,7 +5,7 @@ use Rattle.tv_value.specs.Nested.{Place}
 use Rattle.tv_value.specs.Orders.{same_name}
 use Rattle.tv_value.specs.Values.{Name, Text}
 use Rattle.tv_words.specs.elements.Elements.{element_of}
-use Rattle.tv_words.specs.Commands.{Command, check, command_in, element_command, forward, gen, lineage, numbered_command, plain_command, run, trace, unless_given, workers_of}
+use Rattle.tv_words.specs.Commands.{Command, check, command_in, element_command, forward, gen, lineage, numbered_command, plain_command, run, trace, unless_given, upgrade, workers_of}
 use Rattle.tv_words.specs.Numbers.{number_of}
 use Rattle.tv_words.specs.Reading.{reading_of}
 use Rattle.tv_words.specs.Stated.{CommandsAreBounded, IsBounded, IsCount}
@@ -47,7 +47,8 @@ plain-bounded : (w : Text) (workers : Option Text) → AllBounded (plain_command
 plain-bounded w workers =
     if-bounded (same_name w (codes "run")) _ _ (map-bounded run (workers_of workers) (workers-bounded workers))
     (if-bounded (same_name w (codes "check")) _ _ (unless-bounded workers check tt)
-    (if-bounded (same_name w (codes "trace")) _ _ (unless-bounded workers trace tt) none-bounded))
+    (if-bounded (same_name w (codes "trace")) _ _ (unless-bounded workers trace tt)
+    (if-bounded (same_name w (codes "upgrade")) _ _ (unless-bounded workers upgrade tt) none-bounded)))
 
 element-bounded : (w : Text) (e : Name × Place) → AllBounded (element_command w e)
 element-bounded w e =

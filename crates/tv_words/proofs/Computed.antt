@@ -9,7 +9,7 @@ runs-are-given = (refl, refl, refl, refl, refl)
 
 pub others-are-given : OthersAreGiven
 unfolding words_on_literals
-others-are-given = (refl, refl, refl, refl, refl, refl)
+others-are-given = (refl, refl, refl, refl, refl, refl, refl)
 
 pub faults-are-refused : FaultsAreRefused
 unfolding words_on_literals
@@ -17,7 +17,7 @@ faults-are-refused = (refl, refl, refl, refl, refl, refl, refl, refl)
 
 pub strangers-are-refused : StrangersAreRefused
 unfolding words_on_literals
-strangers-are-refused = (refl, refl, refl, refl, refl, refl, refl, refl, refl, refl)
+strangers-are-refused = (refl, refl, refl, refl, refl, refl, refl, refl, refl, refl, refl)
 
 pub numbers-are-refused : NumbersAreRefused
 unfolding words_on_literals

@@ -18,6 +18,8 @@ pub data Command : Type 0 where
   lineage : Name → Place → Command
   -- read a document, run it, and write which leaves of the outputs used this element of an input
   forward : Name → Place → Command
+  -- read a document, check it, and write the same document in the second format
+  upgrade : Command
   -- run the generated document of this number with so many workers, and write the summary
   gen : ℕ → ℕ → Command
 
@@ -36,7 +38,8 @@ abbrev pub plain_command : Text → Option Text → Option Command
 plain_command word workers =
     if same_name word (codes "run") then option_map run (workers_of workers)
     else (if same_name word (codes "check") then unless_given workers check
-    else (if same_name word (codes "trace") then unless_given workers trace else None))
+    else (if same_name word (codes "trace") then unless_given workers trace
+    else (if same_name word (codes "upgrade") then unless_given workers upgrade else None)))
 
 -- one word and `--of`
 abbrev pub element_command : Text → Name × Place → Option Command

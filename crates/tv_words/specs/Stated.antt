@@ -2,7 +2,7 @@
 use Rattle.std.specs.Prelude.{◌≡◌, ◌≤◌, ◌↔◌, ℕ, List, Option, Some, decimal}
 use Rattle.tv_value.specs.Values.{Text}
 use Rattle.tv_words.specs.Numbers.{count_of, number_of}
-use Rattle.tv_words.specs.Commands.{Command, run, check, trace, lineage, forward, gen, command_of}
+use Rattle.tv_words.specs.Commands.{Command, run, check, trace, lineage, forward, upgrade, gen, command_of}
 
 -- a reading takes exactly the decimal texts of the numbers from `least` to `most`, each for its number
 abbrev pub ReadsFrom : ℕ → ℕ → (Text → Option ℕ) → Type 0
@@ -26,6 +26,7 @@ IsBounded check = Unit {0}
 IsBounded trace = Unit {0}
 IsBounded (lineage port place) = Unit {0}
 IsBounded (forward port place) = Unit {0}
+IsBounded upgrade = Unit {0}
 IsBounded (gen number workers) = ((1 ≤ number) × (number ≤ 200)) × IsCount workers
 
 abbrev pub CommandsAreBounded : Type 0

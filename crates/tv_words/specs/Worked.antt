@@ -1,7 +1,7 @@
 -- Worked examples that compute: words, and the command that they give.
 use Rattle.std.specs.Prelude.{◌≡◌, List, [], ◌∷◌, Some, None, codes}
 use Rattle.tv_value.specs.Values.{Text}
-use Rattle.tv_words.specs.Commands.{Command, run, check, trace, lineage, forward, gen, command_of}
+use Rattle.tv_words.specs.Commands.{Command, run, check, trace, lineage, forward, upgrade, gen, command_of}
 
 abbrev pub gives : List Text → Command → Type 0
 gives words command = command_of words ≡ Some command
@@ -21,6 +21,7 @@ abbrev pub OthersAreGiven : Type 0
 OthersAreGiven =
     gives (codes "check" ∷ []) check
     × gives (codes "trace" ∷ []) trace
+    × gives (codes "upgrade" ∷ []) upgrade
     × gives (codes "lineage" ∷ codes "--of" ∷ codes "out[1,0]" ∷ [])
     (lineage (codes "out") (1 ∷ 0 ∷ []))
     × gives (codes "--of=x[]" ∷ codes "forward" ∷ []) (forward (codes "x") [])
@@ -48,6 +49,7 @@ StrangersAreRefused =
     × refused (codes "run" ∷ codes "run" ∷ [])
     × refused (codes "run" ∷ codes "--of" ∷ codes "out[]" ∷ [])
     × refused (codes "check" ∷ codes "--workers" ∷ codes "1" ∷ [])
+    × refused (codes "upgrade" ∷ codes "--workers" ∷ codes "1" ∷ [])
     × refused (codes "lineage" ∷ [])
     × refused (codes "lineage" ∷ codes "--of" ∷ codes "out" ∷ [])
     × refused (codes "lineage" ∷ codes "--of" ∷ codes "out[]" ∷ codes "--workers" ∷ codes "1" ∷ [])

@@ -67,6 +67,8 @@ fn plain_command(word: &str, workers: Option<&str>) -> Option<Command>
         Some(Command::Check)
     } else if word == "trace" {
         Some(Command::Trace)
+    } else if word == "upgrade" {
+        Some(Command::Upgrade)
     } else {
         None
     }

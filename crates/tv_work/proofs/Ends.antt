@@ -12,7 +12,7 @@ use Rattle.tv_history.proofs.Counts.{uncounted}
 use Rattle.tv_lemmas.proofs.Cases.{on_test}
 use Rattle.tv_gate.specs.Outcomes.{Giving}
 use Rattle.tv_flow.specs.Flows.{Document, Flow, Step}
-use Rattle.tv_flow.specs.Formed.{are_entries, are_named, are_names, is_between, is_feed, is_flow, is_formed, is_step, is_value}
+use Rattle.tv_flow.specs.Formed.{are_entries, are_named, are_names, is_given_loop, is_between, is_feed, is_flow, is_formed, is_step, is_value}
 use Rattle.tv_model.specs.Jobs.{Job}
 use Rattle.tv_model.proofs.Tests.{true≠false}
 use Rattle.tv_history.specs.Entries as history
@@ -31,7 +31,7 @@ use Rattle.tv_strategy.proofs.Each.{each-weaken}
 
 -- every step of a document that was read has a place
 places : (s : Step) → is_step s ≡ true → 1 ≤ s.jobs
-places s h = leb-true 1 s.jobs (first_so (nat_le 1 s.jobs) (nat_le s.jobs 64) (second_so _ (is_between 1 64 s.jobs) (first_so _ (are_names s.after) h)))
+places s h = leb-true 1 s.jobs (first_so (nat_le 1 s.jobs) (nat_le s.jobs 64) (second_so _ (is_between 1 64 s.jobs) (first_so _ (are_names s.after) (first_so _ (is_given_loop s.repeat) h))))
 
 flow-places : (f : Flow) → is_flow f ≡ true → Each (λ s. 1 ≤ s.1.jobs) f.steps
 flow-places f h =

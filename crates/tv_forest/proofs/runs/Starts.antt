@@ -21,7 +21,7 @@ use Rattle.tv_value.specs.Values.{HasDepth, JobName, Name, Value}
 use Rattle.tv_gate.specs.Outcomes.{Giving}
 use Rattle.tv_dispatch.specs.Jobs.{Ask}
 use Rattle.tv_flow.specs.Flows.{Document, Flow}
-use Rattle.tv_flow.specs.Formed.{are_entries, is_ascending, is_between, is_depth, is_flow, is_formed, is_value, are_named}
+use Rattle.tv_flow.specs.Formed.{are_entries, is_ascending, are_of_format, is_depth, is_flow, is_formed, is_value, are_named}
 use Rattle.tv_flow.specs.Forms.{is_name}
 use Rattle.tv_naming.specs.Faulty.{at_given, input_missing, input_unknown, plainly}
 use Rattle.tv_naming.specs.Inputs.{depth_against, given_against, given_complaints, missing_against, unknown_against}
@@ -178,7 +178,7 @@ inputs-are_in_order d flow is = record {
 
     given_rise : is_ascending (map (λ x. x.0) d.inputs) ≡ true
     given_rise =
-        let entries = second_so (is_between 1 1 d.format && is_name d.main && are_named is_flow 1 256 d.flows) (are_entries is_value d.inputs) is.formed in
+        let entries = second_so (are_of_format d.format d.flows && is_name d.main && are_named is_flow 1 256 d.flows) (are_entries is_value d.inputs) is.formed in
         first_so (is_ascending (map (λ x. x.0) d.inputs)) (list_all (λ e. is_name e.0 && is_value e.1) d.inputs) entries
 
     inputs_rise : is_ascending (map (λ x. x.0) flow.inputs) ≡ true

@@ -86,7 +86,7 @@ module _ (flow : Flow) (f : Name) where
 
   step-links : (knows : Name → Bool) (d : Document) (x : Name × Step) → step_naming knows d f flow x ≡ [] → list_all (λ i. list_all (is_there flow) (feed_links i.1.from)) x.1.inputs ≡ true
   step-links knows d x e =
-      let r = append-none _ _ (append-none _ _ (append-none _ _ e).0).0 in
+      let r = append-none _ _ (append-none _ _ (append-none _ _ (append-none _ _ e).0).0).0 in
       each-all (λ i. list_all (is_there flow) (feed_links i.1.from)) x.1.inputs
       (each-by (λ i. link_complaints flow (at_input f x.0 i.0) i.1.from ≡ []) (λ i. list_all (is_there flow) (feed_links i.1.from) ≡ true) x.1.inputs (links-there x)
       (nil-each (λ i. link_complaints flow (at_input f x.0 i.0) i.1.from) x.1.inputs r.0))

@@ -8,7 +8,7 @@ use Rattle.tv_lemmas.proofs.Members.{each_in, in-left, in-map, in-right, of-flat
 use Rattle.tv_value.specs.Nested.{Place}
 use Rattle.tv_value.specs.Values.{Name}
 use Rattle.tv_value.specs.Orders.{named, same_name}
-use Rattle.tv_value.specs.Strategies.{Strategy, port, cross, dot, Strategies, no_strategies, strategy}
+use Rattle.tv_value.specs.Strategies.{Strategy, port, cross, dot, prefix, Strategies, no_strategies, strategy}
 use Rattle.tv_strategy.specs.Conditions.{EachOnce, place_of, times}
 use Rattle.tv_strategy.specs.Measures.{DotsAgree, AllDotsAgree, HaveOneDepth, all_leaf_names, leaf_names, strategy_depth}
 use Rattle.tv_strategy.specs.Splits.{same_place, split, split_cross, split_dot}
@@ -17,11 +17,11 @@ use Rattle.tv_strategy.proofs.PlaceLemmas.{same-equal, same-itself}
 use Rattle.tv_model.specs.instance.Ranks.{is_among}
 use Rattle.tv_matching.specs.Items.{Kind, ends, closes, passes, Item, if_so, item}
 use Rattle.tv_matching.specs.Levels.{AreLeveled, KindAt}
-use Rattle.tv_matching.specs.Matched.{below, bound, crossed_items, joined_items, matched, matched_cross, matched_dot, meet, meet_kinds, replaced, same}
+use Rattle.tv_matching.specs.Matched.{below, bound, crossed_items, joined_items, prefixed_items, matched, matched_cross, matched_dot, meet, meet_below, reaches, meet_kinds, replaced, same}
 use Rattle.tv_matching.specs.Matchers.{leaf_number}
 use Rattle.tv_matching.specs.Tellings.{Telling}
 use Rattle.tv_matching.specs.Told.{Spot, Told, arrival, close, faulty, matched_after, told_leaf, told_to, telling, tellings}
-use Rattle.tv_matching.proofs.Gains.{crossed-permutes, joined-permutes}
+use Rattle.tv_matching.proofs.Gains.{crossed-permutes, joined-permutes, met-permutes}
 use Rattle.tv_matching.proofs.Members.{in-permutes, of-if}
 use Rattle.tv_matching.proofs.Onces.{matched-leveled}
 use Rattle.tv_matching.proofs.Permutes.{perm-from}
@@ -34,6 +34,10 @@ module _ {X F : Type 0} (told heard : Name → List (Item X F)) where
     leaves-permute (port p) h = h p (inl refl)
     leaves-permute (cross cs) h = cross-permute cs h
     leaves-permute (dot cs) h = dot-permute cs h
+    leaves-permute (prefix l r) h =
+        met-permutes meet_below (matched told l) (matched told r) (matched heard l) (matched heard r)
+        (leaves-permute l (λ p i. h p (in-left p (leaf_names l) (leaf_names r) i)))
+        (leaves-permute r (λ p i. h p (in-right p (leaf_names l) (leaf_names r) i)))
 
     cross-permute : (cs : Strategies) → ((p : Name) → In p (all_leaf_names cs) → IsPermutation (told p) (heard p)) → IsPermutation (matched_cross told cs) (matched_cross heard cs)
     cross-permute no_strategies h = IsPermutation-refl _
@@ -135,6 +139,26 @@ joined-parts parts others xs ys h k z i =
     both : Place → List Spot
     both q = parts q ++ others q
 
+prefixed-parts : (parts others : Place → List Spot) (d : ℕ) (xs ys : List (Item Spot Spot)) → AreLeveled d xs → ((x : Item Spot Spot) → In x xs → IsParted parts x) → ((y : Item Spot Spot) → In y ys → IsParted others y) → (z : Item Spot Spot) → In z (prefixed_items xs ys) → IsParted (λ q. parts (take d q) ++ others q) z
+prefixed-parts parts others d xs ys l h k z i =
+    let r = of-flat (λ (x : Item Spot Spot). flat_map (meet_below x) ys) z xs i in
+    let t = of-flat (meet_below r.0) z ys r.2 in
+    let m = of-if (reaches r.0.kind r.0.place t.0.place) (item t.0.place (meet_kinds r.0.kind t.0.kind)) z t.2 in
+    subst (IsParted both) (sym m.1)
+    (met-passes both t.0.place r.0.kind t.0.kind
+    (first t.0.place r.0.place r.0.kind (each_in (λ (x : Item Spot Spot). KindAt d x.place x.kind) xs l r.0 r.1) m.0 (h r.0 r.1))
+    (passes-more others both t.0.place t.0.place t.0.kind (λ f j. in-right f (parts (take d t.0.place)) (others t.0.place) j) (k t.0 t.1)))
+  where
+    both : Place → List Spot
+    both q = parts (take d q) ++ others q
+
+    -- a fault of the first meets what stands at its own place, which is no deeper
+    first : (p q : Place) (c : Kind Spot Spot) → KindAt d q c → reaches c q p ≡ true → PassesAt parts q c → PassesAt both p c
+    first p q (ends b) e g j = tt
+    first p q (closes n) e g j = tt
+    first p q (passes f) e g j =
+        in-left f (parts (take d p)) (others p) (subst (λ r. In f (parts r)) (sym (ap (take d) (sym (same-equal q p g)) ∙ take-short q d (shorter (length q) d e))) j)
+
 module _ (mismatch : Name → ℕ) (told : Name → List (Item Spot Spot)) (leveled : (p : Name) → AreLeveled (mismatch p) (told p)) (own : (p : Name) (x : Item Spot Spot) → In x (told p) → IsParted (λ q. (p, q) ∷ []) x) where
   mutual
     -- a passed fault that is matched stands at its leaf's part of the place
@@ -142,6 +166,8 @@ module _ (mismatch : Name → ℕ) (told : Name → List (Item Spot Spot)) (leve
     parted (port p) a x i = own p x i
     parted (cross cs) a x i = cross-parted cs a x i
     parted (dot cs) a x i = dot-parted cs a.0 a.1 x i
+    parted (prefix l r) a x i =
+        prefixed-parts (split mismatch l) (split mismatch r) (strategy_depth mismatch l) (matched told l) (matched told r) (matched-leveled mismatch told leveled l a.0) (λ y j. parted l a.0 y j) (λ y j. parted r a.1 y j) x i
 
     cross-parted : (cs : Strategies) → AllDotsAgree mismatch cs → (x : Item Spot Spot) → In x (matched_cross told cs) → IsParted (split_cross mismatch cs) x
     cross-parted no_strategies a x (inl m) = subst (IsParted (split_cross mismatch no_strategies)) (sym m) tt

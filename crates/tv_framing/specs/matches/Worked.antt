@@ -38,6 +38,7 @@ two_ports x y how =
       retries = 0;
       jobs = 1;
       after = [];
+      repeat = None;
     }
 
 abbrev pub crossing : Step

@@ -7,7 +7,7 @@ use Rattle.std.specs.Cmp.{first_so, second_so}
 use Rattle.tv_lemmas.specs.Members.{Each}
 use Rattle.tv_value.specs.Values.{Name}
 use Rattle.tv_flow.specs.Flows.{Document, Step}
-use Rattle.tv_flow.specs.Formed.{is_between, is_activity, is_feed, is_value, is_step, is_flow, is_formed, are_entries, are_named, are_listed, are_names}
+use Rattle.tv_flow.specs.Formed.{is_between, is_activity, is_feed, is_value, is_step, is_flow, is_formed, are_entries, are_named, are_listed, are_names, is_given_loop}
 use Rattle.tv_flow.specs.Forms.{is_name}
 use Rattle.tv_model.proofs.Tests.{true≠false}
 use Rattle.tv_history.specs.activities.Agreed.{HasActivities}
@@ -27,7 +27,7 @@ named-pass p least most es h =
 between-activities : (s : Step) → is_step s ≡ true → is_between 1 8 (length s.activities) ≡ true
 between-activities s h =
     first_so (is_between 1 8 (length s.activities)) (list_all is_activity s.activities)
-    (second_so _ (are_listed is_activity 1 8 s.activities) (first_so _ (is_between 0 100 s.retries) (first_so _ (is_between 1 64 s.jobs) (first_so _ (are_names s.after) h))))
+    (second_so _ (are_listed is_activity 1 8 s.activities) (first_so _ (is_between 0 100 s.retries) (first_so _ (is_between 1 64 s.jobs) (first_so _ (are_names s.after) (first_so _ (is_given_loop s.repeat) h)))))
 
 at-least_one : (s : Step) → is_step s ≡ true → 1 ≤ length s.activities
 at-least_one s h = one-at_least (length s.activities) (first_so (nat_le 1 (length s.activities)) _ (between-activities s h))

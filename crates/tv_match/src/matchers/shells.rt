@@ -73,16 +73,25 @@ fn same_tree(first: &Tree, second: &Tree) -> bool
             Tree::Leaf(other) => name.as_str() == other.as_str(),
             Tree::Cross(_) => false,
             Tree::Dot(_) => false,
+            Tree::Prefix(_, _) => false,
         },
         Tree::Cross(trees) => match second {
             Tree::Leaf(_) => false,
             Tree::Cross(others) => same_trees(trees.as_slice(), others.as_slice()),
             Tree::Dot(_) => false,
+            Tree::Prefix(_, _) => false,
         },
         Tree::Dot(trees) => match second {
             Tree::Leaf(_) => false,
             Tree::Cross(_) => false,
             Tree::Dot(others) => same_trees(trees.as_slice(), others.as_slice()),
+            Tree::Prefix(_, _) => false,
+        },
+        Tree::Prefix(left, right) => match second {
+            Tree::Leaf(_) => false,
+            Tree::Cross(_) => false,
+            Tree::Dot(_) => false,
+            Tree::Prefix(other, more) => same_tree(left, other) && same_tree(right, more),
         },
     }
 }

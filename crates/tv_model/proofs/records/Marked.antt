@@ -6,7 +6,7 @@ use Rattle.tv_lemmas.specs.Members.{Each, In}
 use Rattle.tv_lemmas.proofs.Members.{each_in, in-flat, in-left, in-right, in_each, of-flat}
 use Rattle.tv_value.specs.Nested.{leaf, list, Trees, no_trees, tree, Place, map_trees, nodes, nodes_below, nodes_from}
 use Rattle.tv_value.specs.Values.{Name, JobName, Scalar, text, fault, Value, holds_fault}
-use Rattle.tv_value.specs.Strategies.{Strategy, port, cross, dot, Strategies, no_strategies, strategy}
+use Rattle.tv_value.specs.Strategies.{Strategy, port, cross, dot, prefix, Strategies, no_strategies, strategy}
 use Rattle.tv_value.specs.Orders.{named, same_name}
 use Rattle.tv_flow.specs.Flows.{Step, StepInput, Flow}
 use Rattle.tv_gate.specs.Outcomes.{Giving}
@@ -135,6 +135,7 @@ module _ (M : Mark → Type 0) where
       iteration-passes (port p) = fed p
       iteration-passes (cross cs) = cross_of-passes cs
       iteration-passes (dot cs) = dot_of-passes cs
+      iteration-passes (prefix l r) = paired-passes (iteration ports l) (iteration ports r) (iteration-passes l) (iteration-passes r)
 
       cross_of-passes : (cs : Strategies) → Passes (cross_of ports cs)
       cross_of-passes no_strategies = tt

@@ -35,6 +35,7 @@ one_port depth from =
       retries = 0;
       jobs = 1;
       after = [];
+      repeat = None;
     }
 
 abbrev pub u_step : Name × Step

@@ -12,7 +12,7 @@ things-requires g c = omega (arith, c.in_ok-counted-in-Some.ensures.small, c.ite
 
 pub returns-in_ok-things-in-Some-clause-kept : goal.returns-in_ok-things-in-Some-clause-kept
 returns-in_ok-things-in-Some-clause-kept g c =
-    let form = g.T.Formed.form in
+    let form = g.T.Formed.form c.args.format in
     let seen = map g.T.Formed.seen in
     let as' = seen c.in_ok-things-in-Some.things.items in
     ap (λ xs. are_listed g.T.Formed.keeps c.args.least c.args.most (seen xs)) c.of.ensures

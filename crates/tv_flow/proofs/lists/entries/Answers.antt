@@ -14,7 +14,7 @@ use Rattle.tv_flow.proofs.lists.entries.Goals as goal
 
 pub loop-key-preserved : goal.loop-key-preserved
 loop-key-preserved g c =
-    let form = g.T.Formed.form in
+    let form = g.T.Formed.form c.args.format in
     let seen = g.T.Formed.seen in
     let here = at_view c.args.at.now in
     let things = c.loop-key.things.items in
@@ -32,11 +32,14 @@ loop-key-preserved g c =
       kept =
           ap (list_all (λ p. is_name p.0 && g.T.Formed.keeps p.1)) grown
           ∙ all-push (λ p. is_name p.0 && g.T.Formed.keeps p.1) (each seen things) (c.in_ok-name.name, a) c.loop-key.invariant.kept (ap (λ b. b && g.T.Formed.keeps a) c.in_ok-name.ensures.kept ∙ c.in_ok-thing.ensures.kept);
+      fits =
+          ap (list_all (λ p. g.T.Formed.fits c.args.format p.1)) grown
+          ∙ all-push (λ p. g.T.Formed.fits c.args.format p.1) (each seen things) (c.in_ok-name.name, a) c.loop-key.invariant.fits c.in_ok-thing.ensures.fits;
     }
 
 pub returns-in_err-name-clause-read : goal.returns-in_err-name-clause-read
 returns-in_err-name-clause-read g c =
-    let form = g.T.Formed.form in
+    let form = g.T.Formed.form c.args.format in
     let here = at_view c.args.at.now in
     let things = each g.T.Formed.seen c.loop-key.things.items in
     let e = deref_pair (c.in-Some.key, c.in-Some.value) in
@@ -50,7 +53,7 @@ returns-in_err-name-clause-read g c =
 
 pub returns-in_err-thing-clause-read : goal.returns-in_err-thing-clause-read
 returns-in_err-thing-clause-read g c =
-    let form = g.T.Formed.form in
+    let form = g.T.Formed.form c.args.format in
     let here = at_view c.args.at.now in
     let things = each g.T.Formed.seen c.loop-key.things.items in
     let e = deref_pair (c.in-Some.key, c.in-Some.value) in

@@ -10,7 +10,7 @@ use Rattle.tv_flow.proofs.lists.things.Goals as goal
 
 pub loop-index-preserved : goal.loop-index-preserved
 loop-index-preserved g c =
-    let form = g.T.Formed.form in
+    let form = g.T.Formed.form c.args.format in
     let seen = g.T.Formed.seen in
     let here = at_view c.args.at.now in
     let xs = c.args.items.now in

@@ -8,7 +8,7 @@ use Rattle.tv_flow.proofs.lists.things.Given as goal
 
 abbrev pub invariant-loop-index : goal.invariant-loop-index
 invariant-loop-index g l =
-    let form = g.T.Formed.form in
+    let form = g.T.Formed.form l.format in
     let seen = map g.T.Formed.seen l.things.items in
     record {
       read : items_form form (at_view l.at) 0 (json_items l.items) ≡ put_before seen (items_from form (at_view l.at) l.items l.index);

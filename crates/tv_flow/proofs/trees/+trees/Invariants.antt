@@ -5,7 +5,7 @@ use Rattle.serde_json.specs.View.{view as json_view, items_view as json_items}
 use Rattle.tv_value.specs.Views.{strategy_view}
 use Rattle.tv_flow.specs.PathViews.{at_view}
 use Rattle.tv_flow.specs.Forms.{tree_form, items_form}
-use Rattle.tv_flow.specs.Formed.{is_tree}
+use Rattle.tv_flow.specs.Formed.{is_tree, tree_fits}
 use Rattle.tv_flow.proofs.Growing.{put_before, items_from}
 use Rattle.tv_flow.proofs.trees.+trees.Given as goal
 
@@ -18,6 +18,15 @@ decreases-cross_node l = 4 * depth (json_view l.json.now) + 2
 
 abbrev pub decreases-dot_node : goal.decreases-dot_node
 decreases-dot_node l = 4 * depth (json_view l.json.now) + 2
+
+abbrev pub decreases-prefix_node : goal.decreases-prefix_node
+decreases-prefix_node l = 4 * depth (json_view l.json.now) + 2
+
+abbrev pub decreases-pair : goal.decreases-pair
+decreases-pair l = 4 * depth (json_view l.json.now) + 4
+
+abbrev pub decreases-two_trees : goal.decreases-two_trees
+decreases-two_trees l = 4 * items_depth (json_items l.items.now.items) + 5
 
 abbrev pub decreases-children : goal.decreases-children
 decreases-children l = 4 * depth (json_view l.json.now) + 1
@@ -32,6 +41,7 @@ abbrev pub invariant-each_tree-loop-index : goal.invariant-each_tree-loop-index
 invariant-each_tree-loop-index l =
     let seen = map strategy_view l.trees.items in
     record {
-      read : items_form tree_form (at_view l.at) 0 (json_items l.items.items) ≡ put_before seen (items_from tree_form (at_view l.at) l.items.items l.index);
+      read : items_form (tree_form l.format) (at_view l.at) 0 (json_items l.items.items) ≡ put_before seen (items_from (tree_form l.format) (at_view l.at) l.items.items l.index);
       kept : list_all is_tree seen ≡ true;
+      fits : list_all (tree_fits l.format) seen ≡ true;
     }

@@ -1,4 +1,4 @@
-use Rattle.std.proofs.Common.{drop}
+use Rattle.std.proofs.Common.{◌+◌, suc, drop}
 use Rattle.tv_value.specs.Views.{strategy_view}
 use Rattle.tv_value.proofs.TreeLemmas.{size, sizes}
 use Rattle.tv_strategy.specs.Conditions.{number_of}
@@ -11,6 +11,9 @@ decreases-measure l = size (strategy_view l.tree.now)
 
 abbrev pub decreases-sum_of : goal.decreases-sum_of
 decreases-sum_of l = sizes (children_view l.trees.now)
+
+abbrev pub decreases-right_of : goal.decreases-right_of
+decreases-right_of l = suc (size (strategy_view l.left.now) + size (strategy_view l.right.now))
 
 abbrev pub decreases-common_of : goal.decreases-common_of
 decreases-common_of l = sizes (children_view l.trees.now)

@@ -1,9 +1,13 @@
-use Rattle.std.proofs.Common.{◌≡◌, ◌<◌, ◌≤◌, ◌+◌, length, drop, length-append, Bool, not, refl, Some, None, false, true, arith, ap, sym, subst, ◌∙◌}
+use Rattle.std.proofs.Common.{◌≡◌, ◌<◌, ◌≤◌, ◌+◌, length, drop, length-append, if◌then◌else◌, Bool, not, refl, Some, None, false, true, arith, ap, sym, subst, ◌∙◌}
 use Rattle.tv_lemmas.proofs.Tests.{from-false_true}
 use Rattle.tv_value.specs.Views.{strategy_view}
 use Rattle.tv_value.proofs.TreeLemmas.{size, sizes, size-item, strategies_of-drop, strategies_of-end}
 use Rattle.tv_strategy.specs.Conditions.{place_of}
-use Rattle.tv_strategy.specs.Splits.{joined, joined_cross, joined_dot, one_after, same_place}
+use Rattle.tv_value.specs.Nested.{Place}
+use Rattle.tv_value.specs.Values.{Name}
+use Rattle.tv_value.specs.Orders.{is_prefix}
+use Rattle.tv_value.specs.Strategies.{Strategy, prefix}
+use Rattle.tv_strategy.specs.Splits.{gone_on, joined, joined_cross, joined_dot, one_after, same_place}
 use Rattle.tv_strategy.specs.Views.{children_view}
 use Rattle.tv_strategy.proofs.PlaceLemmas.{cross-end, cross-next, cross-none, all_at-differs, all_at-end, all_at-next, all_at-none, dot-all}
 use Rattle.tv_strategy.specs.Rooms.{room_of_all}
@@ -143,3 +147,16 @@ join_dot-loop-tree-preserved t c =
       c.loop-tree.invariant.0 ∙ all_at-next ports _ (strategy_view x) _ q r rest other (not-false (same_place q r) (sym c.ne.ensures ∙ c.if-ne.false)),
       (most-next ports _ (strategy_view x) _ _ rest c.loop-tree.invariant.1).1,
     )
+
+prefix-is : (ports : Name → Place) (l r : Strategy) (q p : Place) → Some q ≡ joined ports l → Some p ≡ joined ports r → (b : Bool) → is_prefix q p ≡ b → (if b then Some p else None) ≡ joined ports (prefix l r)
+prefix-is ports l r q p h k b e = ap (λ c. if c then Some p else None) (sym e) ∙ ap (λ o. gone_on (Some q) o) k ∙ ap (λ o. gone_on o (joined ports r)) h
+
+pub join_prefix-returns-then-not-prefix_of-clause-place : goal.join_prefix-returns-then-not-prefix_of-clause-place
+join_prefix-returns-then-not-prefix_of-clause-place t c =
+    let ports = place_of c.args.places.now in
+    prefix-is ports (strategy_view c.args.left.now) (strategy_view c.args.right.now) c.in-Some.front c.in-Some-2.place (sym c.in-Some.is ∙ c.in_ok-front.ensures.place) (sym c.in-Some-2.is ∙ c.in_ok-place.ensures.place) false (sym c.prefix_of.ensures ∙ c.if-not-prefix_of.true)
+
+pub join_prefix-returns-clause-place : goal.join_prefix-returns-clause-place
+join_prefix-returns-clause-place t c =
+    let ports = place_of c.args.places.now in
+    prefix-is ports (strategy_view c.args.left.now) (strategy_view c.args.right.now) c.in-Some.front c.in-Some-2.place (sym c.in-Some.is ∙ c.in_ok-front.ensures.place) (sym c.in-Some-2.is ∙ c.in_ok-place.ensures.place) true (sym c.prefix_of.ensures ∙ c.if-not-prefix_of.false)

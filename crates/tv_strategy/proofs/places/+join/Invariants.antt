@@ -1,4 +1,4 @@
-use Rattle.std.proofs.Common.{◌≡◌, ◌+◌, ◌≤◌, Some, drop, length}
+use Rattle.std.proofs.Common.{◌≡◌, ◌+◌, ◌≤◌, suc, Some, drop, length}
 use Rattle.tv_value.specs.Views.{strategy_view}
 use Rattle.tv_value.proofs.TreeLemmas.{size, sizes}
 use Rattle.tv_strategy.specs.Conditions.{place_of}
@@ -13,6 +13,9 @@ decreases-join_tree l = size (strategy_view l.tree.now)
 
 abbrev pub decreases-join_cross : goal.decreases-join_cross
 decreases-join_cross l = sizes (children_view l.trees.now)
+
+abbrev pub decreases-join_prefix : goal.decreases-join_prefix
+decreases-join_prefix l = suc (size (strategy_view l.left.now) + size (strategy_view l.right.now))
 
 abbrev pub decreases-join_dot : goal.decreases-join_dot
 decreases-join_dot l = sizes (children_view l.trees.now)

@@ -1,4 +1,4 @@
-use Rattle.std.proofs.Common.{drop, take}
+use Rattle.std.proofs.Common.{◌+◌, suc, drop, take}
 use Rattle.tv_value.specs.Views.{strategy_view}
 use Rattle.tv_value.proofs.TreeLemmas.{size, sizes}
 use Rattle.tv_strategy.specs.Conditions.{number_of}
@@ -11,6 +11,9 @@ decreases-split_into l = size (strategy_view l.tree.now)
 
 abbrev pub decreases-split_cross : goal.decreases-split_cross
 decreases-split_cross l = sizes (children_view l.trees.now)
+
+abbrev pub decreases-split_prefix : goal.decreases-split_prefix
+decreases-split_prefix l = suc (size (strategy_view l.left.now) + size (strategy_view l.right.now))
 
 abbrev pub decreases-split_dot : goal.decreases-split_dot
 decreases-split_dot l = sizes (children_view l.trees.now)

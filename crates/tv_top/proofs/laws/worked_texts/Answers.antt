@@ -1,4 +1,4 @@
-use Rattle.tv_top.proofs.Computed.{runs_one_text, runs_chain, runs_failure, checks_cross, checks_chain, runs_cross, runs_nested_flow, runs_generated, traces_attempts, traces_chain, traces_failure, lineage_of_cross, lineage_of_failure, forward_of_cross}
+use Rattle.tv_top.proofs.Computed.{runs_one_text, runs_chain, runs_failure, checks_cross, checks_chain, runs_cross, runs_nested_flow, runs_generated, traces_attempts, traces_chain, traces_failure, lineage_of_cross, lineage_of_failure, forward_of_cross, upgrades_one_text}
 use Rattle.tv_top.proofs.laws.worked_texts.Goals as goal
 
 pub returns-clause-one : goal.returns-clause-one
@@ -42,3 +42,6 @@ returns-clause-failure_lineage c = lineage_of_failure
 
 pub returns-clause-forward : goal.returns-clause-forward
 returns-clause-forward c = forward_of_cross
+
+pub returns-clause-upgrade : goal.returns-clause-upgrade
+returns-clause-upgrade c = upgrades_one_text

@@ -1,5 +1,3 @@
-use Rattle.std.specs.Prelude.{Err, Ok}
-use Rattle.std.proofs.Common.{ap, sym}
 use Rattle.std.proofs.lemmas.Result.{err_from_is_err_and}
 use Rattle.tv_top.specs.Headline.{read_whole, source_told}
 use Rattle.tv_top.specs.Words.{run}
@@ -17,4 +15,4 @@ pub returns-clause-answer : goal.returns-clause-answer
 returns-clause-answer g c =
     let source = source_told g.S.Source c.args.source.now c.run_read.new.source in
     answered-so g.G.Services.Services.gives g.G.Services.Services.knows run read_whole source c.in_ok-run.run' c.in_ok-run.ensures.read
-    (Ok c.in_ok-text.text) (ap Ok (sym c.in_ok-text.ensures))
+    c.result_or_refusal.result c.result_or_refusal.ensures.answer

@@ -1,4 +1,3 @@
-use Rattle.tv_top.specs.Answers.{answer_of}
 use Rattle.tv_top.specs.Asked.{texts_of}
 use Rattle.tv_top.specs.Asking.{asks_of}
 use Rattle.tv_top.specs.Headline.{sink_told, source_told}
@@ -11,9 +10,9 @@ returns-clause-promised g c =
     let command = command_of (texts_of c.args.words.now) in
     let e = c.answered_by_workers-reply.ensures in
     let f = c.finished.ensures in
-    promised g.S.Source g.K.Sink g.E.Sink command (answer_of g.G.Services.Services.gives g.G.Services.Services.knows command)
+    promised g.S.Source g.K.Sink g.E.Sink g.G.Services.Services.gives g.G.Services.Services.knows command
     c.args.source.now c.answered_by_workers-reply.new.source c.args.out.now c.finished.new.out c.args.err.now c.finished.new.err
-    c.finished.result c.answered_by_workers-reply.result e.answer e.usage e.taken e.unread f.finished f.silent f.unsaid
+    c.finished.result c.answered_by_workers-reply.result e.answer e.usage e.taken e.unread f.finished f.silent f.unsaid f.utf8
 
 pub returns-clause-asked : goal.returns-clause-asked
 returns-clause-asked g c = λ one.

@@ -1,4 +1,4 @@
-use Rattle.std.proofs.Common.{arith, refl, ap, subst, ◌∙◌, ◌≡◌, ◌<◌, ◌+◌, [], length, suc}
+use Rattle.std.proofs.Common.{arith, refl, ap, subst, ◌∙◌, ◌≡◌, ◌<◌, ◌+◌, length, suc}
 use Rattle.std.specs.Prelude.{Some, slice_get}
 use Rattle.tv_value.specs.Values.{Name}
 use Rattle.tv_flow.specs.Flows.{Step}
@@ -7,7 +7,7 @@ use Rattle.tv_strategy.specs.Conditions.{number_of}
 use Rattle.tv_strategy.specs.Measures.{strategy_depth}
 use Rattle.tv_model.specs.instance.Steps.{strategy_of}
 use Rattle.tv_check.specs.Ports.{mismatches}
-use Rattle.tv_traces.specs.OfNodes.{IsBuilt}
+use Rattle.tv_traces.specs.OfNodes.{IsWalked}
 use Rattle.tv_traces.specs.Staged.{IsStage}
 use Rattle.tv_traces.specs.Stepping.{telling_of}
 use Rattle.tv_traces.specs.Sights.{done_in, what_in}
@@ -26,13 +26,13 @@ loop-rank-preserved c =
     let what = what_in c.args.sight.now in
     let done = done_in c.args.sight.now in
     let us = c.loop-rank.shapes.items in
-    let built = λ (s : Name × Step) (e : slice_get flow.steps n ≡ Some s). subst (λ l. IsBuilt (telling_of flow (shapes_view l) (what n) (done n) s) (strategy_depth (number_of (mismatches flow s.1)) (strategy_of s.1)) [] c.loop-rank.records c.step_node.new.records (node_view c.in_ok-node.node)) c.as_slice-in-loop-rank.ensures.value (c.in_ok-node.ensures s e) in
+    let walked = λ (s : Name × Step) (e : slice_get flow.steps n ≡ Some s). subst (λ l. IsWalked (telling_of flow (shapes_view l) (what n) (done n) s) s (strategy_depth (number_of (mismatches flow s.1)) (strategy_of s.1)) c.loop-rank.records c.step_node.new.records (node_view c.in_ok-node.node)) c.as_slice-in-loop-rank.ensures.value (c.in_ok-node.ensures s e) in
     let next : suc c.loop-rank.rank ≡ c.loop-rank.rank + 1 = omega arith in
     record {
       many = ap length c.put.ensures ∙ set-long us n c.in_ok-node.node ∙ c.loop-rank.invariant.many;
-      grouped = more-grouped p n c.loop-rank.rank c.in-Some.ensures.within c.in-Some.ensures.rank what done c.loop-rank.records c.step_node.new.records us c.put.new.shapes.items c.in_ok-node.node c.loop-rank.invariant.many c.put.ensures built c.loop-rank.invariant.grouped;
+      grouped = more-grouped p n c.loop-rank.rank c.in-Some.ensures.within c.in-Some.ensures.rank what done c.loop-rank.records c.step_node.new.records us c.put.new.shapes.items c.in_ok-node.node c.loop-rank.invariant.many c.put.ensures walked c.loop-rank.invariant.grouped;
       stage = λ known settled gives d is seen. subst (λ r. IsStage gives d flow known settled r c.step_node.new.records (shapes_view c.put.new.shapes.items)) next
-          (more-staged p n c.loop-rank.rank c.in-Some.ensures.within c.in-Some.ensures.rank what done c.loop-rank.records c.step_node.new.records us c.put.new.shapes.items c.in_ok-node.node c.loop-rank.invariant.many c.put.ensures built known settled gives d is seen (c.loop-rank.invariant.stage known settled gives d is seen));
+          (more-staged p n c.loop-rank.rank c.in-Some.ensures.within c.in-Some.ensures.rank what done c.loop-rank.records c.step_node.new.records us c.put.new.shapes.items c.in_ok-node.node c.loop-rank.invariant.many c.put.ensures walked known settled gives d is seen (c.loop-rank.invariant.stage known settled gives d is seen));
     }
 
 pub returns : goal.returns

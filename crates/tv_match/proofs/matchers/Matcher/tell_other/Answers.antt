@@ -23,11 +23,11 @@ returns-in-Ok-make-clause-ok c =
     let mid = c.take_back.new in
     let lg = c.take_back.ensures.log in
     let og = c.take_back.ensures.out in
-    let d0 : IsDone s (filed mid.root) mid.log mid.out = c.take_back.ensures.done s (length m.log) a.told_within (omega arith) a.done.worked a.done.rise in
-    let d = done-at s (filed mid.root) mid.log mid.out (take m.told m.log) (front m.told m.out) lg og d0 in
+    let d0 : IsDone (number_of m.mismatch) s (filed mid.root) mid.log mid.out = c.take_back.ensures.done (number_of m.mismatch) s (length m.log) a.told_within (omega arith) a.done.worked a.done.rise in
+    let d = done-at (number_of m.mismatch) s (filed mid.root) mid.log mid.out (take m.told m.log) (front m.told m.out) lg og d0 in
     let b = more-at mid.log mid.out (take m.told m.log) (front m.told m.out) c.work.new.out lg og c.work.ensures.more in
     let k : c.work.new.log ≡ take m.told m.log ++ e ∷ [] = c.in-Ok.ensures.log ∙ ap (λ l. l ++ e ∷ []) lg in
-    let done : IsDone s (filed c.work.new.root) c.work.new.log c.work.new.out = c.in-Ok.ensures.done s d0 in
+    let done : IsDone (number_of m.mismatch) s (filed c.work.new.root) c.work.new.log c.work.new.out = c.in-Ok.ensures.done (number_of m.mismatch) s d0 in
     let count = c.len-self.ensures ∙ listed-count m.told m.log c.work.new.log e a.told_within k in
     subst (λ j. IsTold (telling_of s e) (seen_as s m.mismatch m.log m.out m.told m.given) (seen_as s m.mismatch c.work.new.log c.work.new.out j m.given)) (sym count)
     (made-told s m.mismatch (filed m.root) m.log m.out m.told m.given e a c.requires.proper (filed mid.root) d (filed c.work.new.root) c.work.new.log c.work.new.out k b done c.requires.new)
@@ -41,11 +41,11 @@ returns-in-Ok-make-clause-sound c =
     let mid = c.take_back.new in
     let lg = c.take_back.ensures.log in
     let og = c.take_back.ensures.out in
-    let d0 : IsDone s (filed mid.root) mid.log mid.out = c.take_back.ensures.done s (length m.log) a.told_within (omega arith) a.done.worked a.done.rise in
-    let d = done-at s (filed mid.root) mid.log mid.out (take m.told m.log) (front m.told m.out) lg og d0 in
+    let d0 : IsDone (number_of m.mismatch) s (filed mid.root) mid.log mid.out = c.take_back.ensures.done (number_of m.mismatch) s (length m.log) a.told_within (omega arith) a.done.worked a.done.rise in
+    let d = done-at (number_of m.mismatch) s (filed mid.root) mid.log mid.out (take m.told m.log) (front m.told m.out) lg og d0 in
     let b = more-at mid.log mid.out (take m.told m.log) (front m.told m.out) c.work.new.out lg og c.work.ensures.more in
     let k : c.work.new.log ≡ take m.told m.log ++ e ∷ [] = c.in-Ok.ensures.log ∙ ap (λ l. l ++ e ∷ []) lg in
-    let done : IsDone s (filed c.work.new.root) c.work.new.log c.work.new.out = c.in-Ok.ensures.done s d0 in
+    let done : IsDone (number_of m.mismatch) s (filed c.work.new.root) c.work.new.log c.work.new.out = c.in-Ok.ensures.done (number_of m.mismatch) s d0 in
     let count = c.len-self.ensures ∙ listed-count m.told m.log c.work.new.log e a.told_within k in
     let late : front m.told c.work.new.out ≡ front m.told m.out = more-late m.told (length mid.log + 1) mid.out c.work.new.out (let l = first-long m.told mid.log m.log a.told_within lg in omega (arith, l)) c.work.ensures.more ∙ ap (front m.told) og ∙ front-again m.told m.out in
     record {
@@ -67,12 +67,12 @@ returns-in-Err-clause-refused c =
     let mid = c.take_back.new in
     let lg = c.take_back.ensures.log in
     let og = c.take_back.ensures.out in
-    let d0 : IsDone s (filed mid.root) mid.log mid.out = c.take_back.ensures.done s (length m.log) a.told_within (omega arith) a.done.worked a.done.rise in
-    let d = done-at s (filed mid.root) mid.log mid.out (take m.told m.log) (front m.told m.out) lg og d0 in
+    let d0 : IsDone (number_of m.mismatch) s (filed mid.root) mid.log mid.out = c.take_back.ensures.done (number_of m.mismatch) s (length m.log) a.told_within (omega arith) a.done.worked a.done.rise in
+    let d = done-at (number_of m.mismatch) s (filed mid.root) mid.log mid.out (take m.told m.log) (front m.told m.out) lg og d0 in
     let b = more-at mid.log mid.out (take m.told m.log) (front m.told m.out) c.work.new.out lg og c.work.ensures.more in
     let l = listed-at mid.log (take m.told m.log) c.work.new.log lg c.work.ensures.listed in
-    let still = c.work.ensures.still s d0 in
-    let w = c.take_back-in-Err.ensures.done s (length mid.log) (first-long m.told mid.log m.log a.told_within lg) (listed-long mid.log c.work.new.log c.work.ensures.listed) still.0 still.1 in
+    let still = c.work.ensures.still (number_of m.mismatch) s d0 in
+    let w = c.take_back-in-Err.ensures.done (number_of m.mismatch) s (length mid.log) (first-long m.told mid.log m.log a.told_within lg) (listed-long mid.log c.work.new.log c.work.ensures.listed) still.0 still.1 in
     let late : front m.told c.work.new.out ≡ front m.told m.out = more-late m.told (length mid.log + 1) mid.out c.work.new.out (let l = first-long m.told mid.log m.log a.told_within lg in omega (arith, l)) c.work.ensures.more ∙ ap (front m.told) og ∙ front-again m.told m.out in
     (failed-freed s m.mismatch (filed m.root) m.log m.out m.told m.given e a c.requires.proper (filed mid.root) d (filed c.work.new.root) (filed c.take_back-in-Err.new.root) c.work.new.log c.work.new.out c.take_back-in-Err.new.log c.take_back-in-Err.new.out b l c.take_back-in-Err.ensures.log c.take_back-in-Err.ensures.out w, ap (map outcome_of) (ap (front m.told) c.take_back-in-Err.ensures.out ∙ front-again m.told c.work.new.out ∙ late))
 
@@ -85,12 +85,12 @@ returns-in-Err-clause-sound c =
     let mid = c.take_back.new in
     let lg = c.take_back.ensures.log in
     let og = c.take_back.ensures.out in
-    let d0 : IsDone s (filed mid.root) mid.log mid.out = c.take_back.ensures.done s (length m.log) a.told_within (omega arith) a.done.worked a.done.rise in
-    let d = done-at s (filed mid.root) mid.log mid.out (take m.told m.log) (front m.told m.out) lg og d0 in
+    let d0 : IsDone (number_of m.mismatch) s (filed mid.root) mid.log mid.out = c.take_back.ensures.done (number_of m.mismatch) s (length m.log) a.told_within (omega arith) a.done.worked a.done.rise in
+    let d = done-at (number_of m.mismatch) s (filed mid.root) mid.log mid.out (take m.told m.log) (front m.told m.out) lg og d0 in
     let b = more-at mid.log mid.out (take m.told m.log) (front m.told m.out) c.work.new.out lg og c.work.ensures.more in
     let l = listed-at mid.log (take m.told m.log) c.work.new.log lg c.work.ensures.listed in
-    let still = c.work.ensures.still s d0 in
-    let w = c.take_back-in-Err.ensures.done s (length mid.log) (first-long m.told mid.log m.log a.told_within lg) (listed-long mid.log c.work.new.log c.work.ensures.listed) still.0 still.1 in
+    let still = c.work.ensures.still (number_of m.mismatch) s d0 in
+    let w = c.take_back-in-Err.ensures.done (number_of m.mismatch) s (length mid.log) (first-long m.told mid.log m.log a.told_within lg) (listed-long mid.log c.work.new.log c.work.ensures.listed) still.0 still.1 in
     let late : front m.told c.work.new.out ≡ front m.told m.out = more-late m.told (length mid.log + 1) mid.out c.work.new.out (let l = first-long m.told mid.log m.log a.told_within lg in omega (arith, l)) c.work.ensures.more ∙ ap (front m.told) og ∙ front-again m.told m.out in
     record {
       keeps = failed-sound s m.mismatch (filed m.root) m.log m.out m.told m.given e a c.requires.proper (filed mid.root) d (filed c.work.new.root) (filed c.take_back-in-Err.new.root) c.work.new.log c.work.new.out c.take_back-in-Err.new.log c.take_back-in-Err.new.out b l c.take_back-in-Err.ensures.log c.take_back-in-Err.ensures.out w;
@@ -116,12 +116,12 @@ returns-in-Err-make-clause-refused c =
     let mid = c.take_back.new in
     let lg = c.take_back.ensures.log in
     let og = c.take_back.ensures.out in
-    let d0 : IsDone s (filed mid.root) mid.log mid.out = c.take_back.ensures.done s (length m.log) a.told_within (omega arith) a.done.worked a.done.rise in
-    let d = done-at s (filed mid.root) mid.log mid.out (take m.told m.log) (front m.told m.out) lg og d0 in
+    let d0 : IsDone (number_of m.mismatch) s (filed mid.root) mid.log mid.out = c.take_back.ensures.done (number_of m.mismatch) s (length m.log) a.told_within (omega arith) a.done.worked a.done.rise in
+    let d = done-at (number_of m.mismatch) s (filed mid.root) mid.log mid.out (take m.told m.log) (front m.told m.out) lg og d0 in
     let b = more-at mid.log mid.out (take m.told m.log) (front m.told m.out) c.work.new.out lg og c.work.ensures.more in
     let l = listed-at mid.log (take m.told m.log) c.work.new.log lg c.work.ensures.listed in
-    let still = c.work.ensures.still s d0 in
-    let w = c.take_back-in-Err-make.ensures.done s (length mid.log) (first-long m.told mid.log m.log a.told_within lg) (listed-long mid.log c.work.new.log c.work.ensures.listed) still.0 still.1 in
+    let still = c.work.ensures.still (number_of m.mismatch) s d0 in
+    let w = c.take_back-in-Err-make.ensures.done (number_of m.mismatch) s (length mid.log) (first-long m.told mid.log m.log a.told_within lg) (listed-long mid.log c.work.new.log c.work.ensures.listed) still.0 still.1 in
     let late : front m.told c.work.new.out ≡ front m.told m.out = more-late m.told (length mid.log + 1) mid.out c.work.new.out (let l = first-long m.told mid.log m.log a.told_within lg in omega (arith, l)) c.work.ensures.more ∙ ap (front m.told) og ∙ front-again m.told m.out in
     (failed-freed s m.mismatch (filed m.root) m.log m.out m.told m.given e a c.requires.proper (filed mid.root) d (filed c.work.new.root) (filed c.take_back-in-Err-make.new.root) c.work.new.log c.work.new.out c.take_back-in-Err-make.new.log c.take_back-in-Err-make.new.out b l c.take_back-in-Err-make.ensures.log c.take_back-in-Err-make.ensures.out w, ap (map outcome_of) (ap (front m.told) c.take_back-in-Err-make.ensures.out ∙ front-again m.told c.work.new.out ∙ late))
 
@@ -134,12 +134,12 @@ returns-in-Err-make-clause-sound c =
     let mid = c.take_back.new in
     let lg = c.take_back.ensures.log in
     let og = c.take_back.ensures.out in
-    let d0 : IsDone s (filed mid.root) mid.log mid.out = c.take_back.ensures.done s (length m.log) a.told_within (omega arith) a.done.worked a.done.rise in
-    let d = done-at s (filed mid.root) mid.log mid.out (take m.told m.log) (front m.told m.out) lg og d0 in
+    let d0 : IsDone (number_of m.mismatch) s (filed mid.root) mid.log mid.out = c.take_back.ensures.done (number_of m.mismatch) s (length m.log) a.told_within (omega arith) a.done.worked a.done.rise in
+    let d = done-at (number_of m.mismatch) s (filed mid.root) mid.log mid.out (take m.told m.log) (front m.told m.out) lg og d0 in
     let b = more-at mid.log mid.out (take m.told m.log) (front m.told m.out) c.work.new.out lg og c.work.ensures.more in
     let l = listed-at mid.log (take m.told m.log) c.work.new.log lg c.work.ensures.listed in
-    let still = c.work.ensures.still s d0 in
-    let w = c.take_back-in-Err-make.ensures.done s (length mid.log) (first-long m.told mid.log m.log a.told_within lg) (listed-long mid.log c.work.new.log c.work.ensures.listed) still.0 still.1 in
+    let still = c.work.ensures.still (number_of m.mismatch) s d0 in
+    let w = c.take_back-in-Err-make.ensures.done (number_of m.mismatch) s (length mid.log) (first-long m.told mid.log m.log a.told_within lg) (listed-long mid.log c.work.new.log c.work.ensures.listed) still.0 still.1 in
     let late : front m.told c.work.new.out ≡ front m.told m.out = more-late m.told (length mid.log + 1) mid.out c.work.new.out (let l = first-long m.told mid.log m.log a.told_within lg in omega (arith, l)) c.work.ensures.more ∙ ap (front m.told) og ∙ front-again m.told m.out in
     record {
       keeps = failed-sound s m.mismatch (filed m.root) m.log m.out m.told m.given e a c.requires.proper (filed mid.root) d (filed c.work.new.root) (filed c.take_back-in-Err-make.new.root) c.work.new.log c.work.new.out c.take_back-in-Err-make.new.log c.take_back-in-Err-make.new.out b l c.take_back-in-Err-make.ensures.log c.take_back-in-Err-make.ensures.out w;

@@ -9,4 +9,4 @@ returns-in-Cross t c =
 
 pub returns-in-Dot : goal.returns-in-Dot
 returns-in-Dot t c =
-    dot-cut c.args.number c.args.self.now c.in-Dot.firsts c.in-Dot.rests c.cut-in-Dot.new.self c.cut-in-Dot-2.new.self c.in-Dot.field-2 c.in-Dot.first c.in-Dot.rest _ _ c.in-Dot.is c.cut-in-Dot.ensures c.cut-in-Dot-2.ensures (c.cut-in-Dot-3.ensures ∙ ap (λ s. fronted c.args.number (filed s)) c.deref_mut-in-Dot.ensures.value) (c.cut-in-Dot-4.ensures ∙ ap (λ s. fronted c.args.number (filed s)) c.deref_mut-in-Dot-2.ensures.value)
+    dot-cut c.args.number c.args.self.now c.in-Dot.firsts c.cut-in-Dot.new.self c.in-Dot.rests c.cut-in-Dot-2.new.self c.in-Dot.field-2 c.in-Dot.first c.in-Dot.rest _ _ c.in-Dot.is c.cut-in-Dot.ensures c.cut-in-Dot-2.ensures (c.cut-in-Dot-3.ensures ∙ ap (λ s. fronted c.args.number (filed s)) c.deref_mut-in-Dot.ensures.value) (c.cut-in-Dot-4.ensures ∙ ap (λ s. fronted c.args.number (filed s)) c.deref_mut-in-Dot-2.ensures.value)

@@ -1,5 +1,0 @@
-use Rattle.tv_pool.specs.Pool.{IsLive}
-use Rattle.tv_tests_engine.proofs.pool.shared.Given as goal
-
-abbrev pub invariant-puts : goal.invariant-puts
-invariant-puts l = record { first : IsLive l.pool l.first; second : IsLive l.pool l.second }
