@@ -24,7 +24,7 @@ _taverna() {
     local word=${COMP_WORDS[COMP_CWORD]} before=${COMP_WORDS[COMP_CWORD-1]} command=${COMP_WORDS[1]} said=" ${COMP_WORDS[*]} "
     COMPREPLY=()
     if [ "$COMP_CWORD" -eq 1 ]; then
-        _taverna_words "run check trace lineage forward gen" "$word"
+        _taverna_words "run check trace lineage forward upgrade gen" "$word"
         return
     fi
     case $before in
@@ -38,7 +38,7 @@ _taverna() {
         lineage:* | forward:*)
             if [[ $said == *" --of "* ]]; then _taverna_files "$word"; else _taverna_words "--of" "$word"; fi
             ;;
-        run:* | check:* | trace:*) _taverna_files "$word" ;;
+        run:* | check:* | trace:* | upgrade:*) _taverna_files "$word" ;;
     esac
 }
 

@@ -169,7 +169,7 @@ def drawn(random):
     maker = Nesting(random, flows, 4)
     main, _ = maker.whole()
     inputs = {name: maker.value(depth) for name, depth in main["inputs"].items()}
-    return {"taverna": 1, "main": "m", "flows": {"m": main, **{name: made for name, (made, _) in flows.items()}}, "inputs": inputs}
+    return {"taverna": 2, "main": "m", "flows": {"m": main, **{name: made for name, (made, _) in flows.items()}}, "inputs": inputs}
 
 
 def cases(random, orders, count):

@@ -71,7 +71,10 @@ class Maker:
         if len(groups) == 1 and len(ports) > 1:
             groups = [[port] for port in ports]
         children = [self.tree(group, mismatch) if len(group) < len(ports) else group[0] for group in groups]
-        if len({tree_depth(child, mismatch) for child in children}) == 1 and self.random.random() < 0.7:
+        depths = [tree_depth(child, mismatch) for child in children]
+        if len(depths) == 2 and depths[0] <= depths[1] and self.random.random() < 0.4:
+            return {"prefix": children}
+        if len(set(depths)) == 1 and self.random.random() < 0.7:
             return {"dot": children}
         return {"cross": children}
 
@@ -133,7 +136,7 @@ class Maker:
         for name in self.random.sample(["out", "r", "Z"], self.random.randint(1, 3)):
             self.flow["outputs"][name] = self.feed()[0]
         inputs = {name: self.value(depth) for name, depth in self.flow["inputs"].items()}
-        document = {"taverna": 1, "main": "m", "flows": {"m": self.flow}, "inputs": inputs}
+        document = {"taverna": 2, "main": "m", "flows": {"m": self.flow}, "inputs": inputs}
         case = {"document": document, "seed": self.random.randrange(1 << 40)}
         if not self.made:
             return {**case, "board": True}

@@ -5,21 +5,29 @@ an instance after some events, and answers from the sets of what has happened. N
 
 A value is a text, a list of values, or an error document `{"error":{..}}`. Inside, a value is a tree of nodes, each with its origin:
 None (an input, a constant, a merge or a wrapping), `("job", step, place)`, or `("level", step, place)` for a list or passed fault of a
-step's iteration. A place is a tuple of indices, and a step is its name.
+step's iteration. A node may have a mark of what it was made of, `("given", input, place)` or `("job", step, place)`. A place is a tuple
+of indices, and a step is its name.
 """
 from itertools import chain
 
 
 class Node:
-    """A node of a value: what it is, and what it came from."""
+    """A node of a value: what it is, what it came from, and its mark."""
 
-    def __init__(self, origin, value):
+    def __init__(self, origin, value, mark=None):
         self.origin = origin
         self.value = value  # a text, a list of nodes, or an error document
+        self.mark = mark
 
     def inside(self):
         """The origins of this node and of all nodes inside."""
         return {self.origin}.union(*(item.inside() for item in self.value)) if isinstance(self.value, list) else {self.origin}
+
+    def used(self):
+        """The marks that it was made of: its own, or else those of its items."""
+        if self.mark is not None:
+            return {self.mark}
+        return set().union(*(item.used() for item in self.value)) if isinstance(self.value, list) else set()
 
     def plain(self):
         return [item.plain() for item in self.value] if isinstance(self.value, list) else self.value
@@ -29,8 +37,14 @@ class Node:
 
 
 def nodes(origin, value):
-    """A value of which every node has this origin."""
-    return Node(origin, [nodes(origin, item) for item in value] if isinstance(value, list) else value)
+    """A value of which every node has this origin, and is marked by it."""
+    return Node(origin, [nodes(origin, item) for item in value] if isinstance(value, list) else value, origin)
+
+
+def given(name, value, place=()):
+    """A value of an input, of which every node is marked by its place."""
+    items = [given(name, item, place + (at,)) for at, item in enumerate(value)] if isinstance(value, list) else value
+    return Node(None, items, ("given", name, place))
 
 
 class End:
@@ -41,11 +55,12 @@ class End:
 
 
 class Stop:
-    """A fault that is passed."""
+    """A fault that is passed, with its mark."""
 
-    def __init__(self, document, sources):
+    def __init__(self, document, sources, mark):
         self.document = document
         self.sources = sources
+        self.mark = mark
 
 
 class Level:
@@ -63,16 +78,21 @@ def leaf(port, levels, node):
     if isinstance(node.value, list):
         return Level([leaf(port, levels - 1, item) for item in node.value], {node.origin})
     assert isinstance(node.value, dict), "a text is walked"
-    return Stop(node.value, {node.origin})
+    return Stop(node.value, {node.origin}, node.mark)
 
 
 def graft(first, rest):
     """The first child of a cross with that of the others at each of its ends."""
     if isinstance(first, End):
-        return added(rest, first.binding, set().union(*(node.inside() for node in first.binding.values())))
+        return below(first, rest)
     if isinstance(first, Stop):
         return first
     return Level([graft(item, rest) for item in first.items], first.sources)
+
+
+def below(end, iteration):
+    """An iteration below an end."""
+    return added(iteration, end.binding, set().union(*(node.inside() for node in end.binding.values())))
 
 
 def added(iteration, binding, sources):
@@ -80,7 +100,7 @@ def added(iteration, binding, sources):
     if isinstance(iteration, End):
         return End({**binding, **iteration.binding})
     if isinstance(iteration, Stop):
-        return Stop(iteration.document, iteration.sources | sources)
+        return Stop(iteration.document, iteration.sources | sources, iteration.mark)
     return Level([added(item, binding, sources) for item in iteration.items], iteration.sources | sources)
 
 
@@ -88,11 +108,23 @@ def zipped(depth, children):
     """Equal positions of the children of a dot, to the shortest list."""
     if depth == 0:
         return End(dict(chain.from_iterable(child.binding.items() for child in children)))
+    return side_by_side(children, lambda *items: zipped(depth - 1, items))
+
+
+def side_by_side(children, joined):
+    """Lists beside each other, of whose items each are joined, to the shortest; or the first fault in the place of one."""
     sources = set().union(*(child.sources for child in children))
     for child in children:
         if isinstance(child, Stop):
-            return Stop(child.document, sources)
-    return Level([zipped(depth - 1, items) for items in zip(*(child.items for child in children))], sources)
+            return Stop(child.document, sources, child.mark)
+    return Level([joined(*items) for items in zip(*(child.items for child in children))], sources)
+
+
+def paired(depth, left, right):
+    """The left, which has this depth, with all of the right below each of its ends."""
+    if depth == 0:
+        return below(left, right)
+    return side_by_side([left, right], lambda first, second: paired(depth - 1, first, second))
 
 
 def tree_depth(tree, mismatch):
@@ -103,6 +135,10 @@ def tree_depth(tree, mismatch):
         depths = {tree_depth(child, mismatch) for child in tree["dot"]}
         assert len(depths) == 1, "a dot's children differ"
         return depths.pop()
+    if "prefix" in tree:
+        left, right = (tree_depth(child, mismatch) for child in tree["prefix"])
+        assert left <= right, "the left is deeper than the right"
+        return right
     return sum(tree_depth(child, mismatch) for child in tree["cross"])
 
 
@@ -112,6 +148,9 @@ def iterated(tree, mismatch, delivered):
         return leaf(tree, mismatch[tree], delivered[tree])
     if "dot" in tree:
         return zipped(tree_depth(tree, mismatch), [iterated(child, mismatch, delivered) for child in tree["dot"]])
+    if "prefix" in tree:
+        left, right = (iterated(child, mismatch, delivered) for child in tree["prefix"])
+        return paired(tree_depth(tree["prefix"][0], mismatch), left, right)
     whole = End({})
     for child in tree["cross"]:
         whole = graft(whole, iterated(child, mismatch, delivered))
@@ -151,8 +190,13 @@ def by_rank(steps):
     return taken
 
 
+def strategy_of(step):
+    """A step's tree: without one, a cross of its ports."""
+    return step.get("strategy") or {"cross": sorted(step["inputs"])}
+
+
 class Step:
-    """A step with its iteration: the jobs with what they bind, and the lists and faults with what they come from."""
+    """A step with its iteration: the jobs with what they bind and use, and the lists and faults with what they come from."""
 
     def __init__(self, name, step, tree, mismatch, delivered):
         self.name = name
@@ -160,7 +204,7 @@ class Step:
         self.ports = sorted(step["inputs"])
         self.depth = tree_depth(tree, mismatch)
         self.iteration = iterated(tree, mismatch, delivered)
-        self.jobs, self.levels, self.passed = {}, {}, set()
+        self.jobs, self.used, self.levels, self.passed = {}, {}, {}, set()
         self.enter(self.iteration, ())
 
     def enter(self, iteration, place):
@@ -168,6 +212,7 @@ class Step:
             values = [iteration.binding[port] for port in self.ports]
             needs = set().union(*(value.inside() for value in values))
             self.jobs[place] = ([value.plain() for value in values], any(value.holds_fault() for value in values), needs)
+            self.used[place] = set().union(*(value.used() for value in values))
         elif isinstance(iteration, Stop):
             self.levels[place] = (None, iteration.sources)
         else:
@@ -184,7 +229,8 @@ class Step:
                 return nodes(("job", self.name, place), results.get((self.name, place), {number: []})[number])
             if isinstance(iteration, Stop):
                 depth = self.depth - len(place) + self.step["outputs"][port]
-                return Node(("level", self.name, place), {"error": {**iteration.document["error"], "depth": depth}})
+                fault = {"error": {**iteration.document["error"], "depth": depth}}
+                return Node(("level", self.name, place), fault, iteration.mark)
             return Node(("level", self.name, place), [put(item, place + (at,)) for at, item in enumerate(iteration.items)])
 
         return put(self.iteration, ())
@@ -201,12 +247,13 @@ class Instance:
         self.order = by_rank(flow["steps"])
         for name in self.order:
             self.take(name, flow["steps"][name])
-        self.outputs = [self.fed(flow["outputs"][port]).plain() for port in sorted(flow["outputs"])]
+        self.ended = {port: self.fed(flow["outputs"][port]) for port in sorted(flow["outputs"])}
+        self.outputs = [value.plain() for value in self.ended.values()]
 
     def fed(self, feed):
         """The value of a feed."""
         if "input" in feed:
-            return nodes(None, self.inputs[feed["input"]])
+            return given(feed["input"], self.inputs[feed["input"]])
         if "step" in feed:
             return self.values[feed["step"], feed["port"]]
         if "merge" in feed:
@@ -224,8 +271,7 @@ class Instance:
             delivered[port] = self.fed(described["from"])
             for _ in range(-more):
                 delivered[port] = Node(None, [delivered[port]])
-        tree = step.get("strategy") or {"cross": sorted(step["inputs"])}
-        self.steps[name] = Step(name, step, tree, mismatch, delivered)
+        self.steps[name] = Step(name, step, strategy_of(step), mismatch, delivered)
         self.depths[name] = self.steps[name].depth
         self.work(name)
         for port in step["outputs"]:

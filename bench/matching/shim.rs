@@ -139,6 +139,7 @@ pub enum Tree {
     Leaf(Name),
     Cross(Trees),
     Dot(Trees),
+    Prefix(Box<Tree>, Box<Tree>),
 }
 pub struct Trees(pub std::vec::Vec<Tree>);
 impl Trees {
@@ -158,6 +159,10 @@ impl Tree {
             }
             Tree::Cross(t) => Tree::Cross(t.copy(a)?),
             Tree::Dot(t) => Tree::Dot(t.copy(a)?),
+            Tree::Prefix(l, r) => {
+                let l = Box::new(a, l.copy(a)?)?;
+                Tree::Prefix(l, Box::new(a, r.copy(a)?)?)
+            }
         })
     }
 }
@@ -188,6 +193,11 @@ pub trait Copied: Sized {
     fn copy(&self, a: Global) -> Result<Self, NoMemory>;
 }
 pub type Depths = Sequence<(Name, u32)>;
+impl Depths {
+    pub fn named(&self, name: &Name) -> Option<&u32> {
+        self.0.iter().find(|(other, _)| other == name).map(|(_, depth)| depth)
+    }
+}
 impl Copied for Depths {
     fn copy(&self, _: Global) -> Result<Self, NoMemory> {
         take()?;
@@ -203,5 +213,6 @@ pub fn depth_of(tree: &Tree, mismatch: &Depths) -> Result<u32, ()> {
         }
         Tree::Cross(trees) => trees.0.iter().map(|tree| depth_of(tree, mismatch)).sum(),
         Tree::Dot(trees) => trees.0.first().map_or(Ok(0), |tree| depth_of(tree, mismatch)),
+        Tree::Prefix(_, right) => depth_of(right, mismatch),
     }
 }

@@ -229,6 +229,7 @@ pub enum Shape {
     Leaf(usize),
     Cross(Vec<Shape>),
     Dot(Vec<Shape>),
+    Prefix(std::boxed::Box<Shape>, std::boxed::Box<Shape>),
 }
 
 /// What a leaf walks of its value, each node with the number of its telling.
@@ -267,6 +268,13 @@ pub fn shape(
     if leaves == 1 && !random.once_in(6) {
         depths.push(depth);
         return Ok(Shape::Leaf(depths.len() - 1));
+    }
+    if leaves > 1 && random.once_in(3) {
+        let count = 1 + random.below(leaves - 1);
+        let levels = random.below(depth + 1);
+        let first = shape(alloc, random, count, levels, depths)?;
+        let second = shape(alloc, random, leaves - count, depth, depths)?;
+        return Ok(Shape::Prefix(std::boxed::Box::new(first), std::boxed::Box::new(second)));
     }
     let mut children = Vec::new();
     let dot = random.once_in(2);
@@ -311,6 +319,10 @@ pub fn tree(alloc: Global, shape: &Shape) -> Result<Tree> {
         Shape::Leaf(leaf) => Ok(Tree::Leaf(name(alloc, *leaf)?)),
         Shape::Cross(shapes) => Ok(Tree::Cross(trees(alloc, shapes.as_slice())?)),
         Shape::Dot(shapes) => Ok(Tree::Dot(trees(alloc, shapes.as_slice())?)),
+        Shape::Prefix(first, second) => {
+            let first = Box::new(alloc, tree(alloc, first)?)?;
+            Ok(Tree::Prefix(first, Box::new(alloc, tree(alloc, second)?)?))
+        }
     }
 }
 
@@ -530,6 +542,24 @@ fn zipped(alloc: Global, children: &[&Iteration]) -> Result<Iteration> {
     Ok(Iteration::List(sources, items))
 }
 
+/// What the children of a prefix node have: below an end of the first all that the second has there.
+fn prefixed(alloc: Global, first: &Iteration, second: &Iteration) -> Result<Iteration> {
+    let sources = both(alloc, sources_of(first), sources_of(second))?;
+    match (first, second) {
+        (Iteration::End(own, faulty), _) => added(alloc, own.as_slice(), *faulty, second),
+        (Iteration::Passed(_, leaf), _) => Ok(Iteration::Passed(sources, *leaf)),
+        (Iteration::List(..), Iteration::Passed(_, leaf)) => Ok(Iteration::Passed(sources, *leaf)),
+        (Iteration::List(_, items), Iteration::List(_, parts)) => {
+            let mut inside = Vec::new();
+            for (item, part) in items.iter().zip(parts.iter()) {
+                inside.push(prefixed(alloc, item, part)?);
+            }
+            Ok(Iteration::List(sources, inside))
+        }
+        (Iteration::List(..), Iteration::End(..)) => bail!("an end below a list"),
+    }
+}
+
 pub fn iteration(alloc: Global, shape: &Shape, walks: &[Walk]) -> Result<Iteration> {
     match shape {
         Shape::Leaf(leaf) => walked(alloc, *leaf as u32, &walks[*leaf]),
@@ -544,6 +574,11 @@ pub fn iteration(alloc: Global, shape: &Shape, walks: &[Walk]) -> Result<Iterati
                 lent.push(child);
             }
             zipped(alloc, lent.as_slice())
+        }
+        Shape::Prefix(first, second) => {
+            let first = iteration(alloc, first, walks)?;
+            let second = iteration(alloc, second, walks)?;
+            prefixed(alloc, &first, &second)
         }
     }
 }
@@ -801,6 +836,7 @@ pub fn run(
     for _ in 0..says.len() {
         told.push(false);
     }
+    refuse(0, 0);
     let (form, depths) = (tree(alloc, &form)?, mismatch(alloc, depths.as_slice())?);
     refuse(from, end);
     let mut matcher = match Matcher::start(alloc, &form, &depths) {

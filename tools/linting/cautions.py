@@ -1,7 +1,7 @@
 """Warnings: what the program accepts, and what then fails job by job or does other than was meant."""
 import re
 
-from linting.checks import feeds_of, flows_opened_by, inputs_of, leaves_of, links_of, outputs_of, steps_of, strategy_of
+from linting.checks import feeds_of, flows_opened_by, inputs_of, kind_of_node, leaves_of, links_of, outputs_of, steps_of, strategy_of
 from linting.findings import MOST_FOUND, WARNING, Finding, Findings, counted, quoted
 from linting.services import ANY, PORT_WORDS, SERVICES, is_number
 from linting.values import MOST_COUNTED, below, depth_of, parting, shape_of, together, top
@@ -303,10 +303,13 @@ class Dots:
         """The shape of a strategy and its levels; warns of dots that are cut."""
         if isinstance(tree, str):
             return ports[tree]
-        kind = "cross" if "cross" in tree else "dot"
+        kind = kind_of_node(tree)
         found = [self.tree(it, ports, (*path, kind, at)) for at, it in enumerate(tree[kind])]
         if not found:
             return None, 0
+        if kind == "prefix":
+            # (how much of the right is left out isn't told)
+            return None, found[1][1]
         shape, levels = found[0]
         for at, (other, more) in enumerate(found[1:], 1):
             if kind == "cross":

@@ -8,7 +8,7 @@ from linting.services import SERVICES
 from linting.values import depth_of, has_depth
 
 NO_PORT, NO_SERVICE, NO_FLOW, FLOW_CYCLE, LINK_CYCLE, STRATEGY_PORTS, DOT_DEPTHS, MERGE_DEPTHS, NESTED_PORTS = range(1, 10)
-TOO_DEEP, INPUT_MISSING, INPUT_UNKNOWN, INPUT_DEPTH = range(10, 14)
+TOO_DEEP, INPUT_MISSING, INPUT_UNKNOWN, INPUT_DEPTH, LOOP_NESTED, LOOP_DEPTHS, PREFIX_DEPTHS = range(10, 17)
 WORDS = (
     "no such port",
     "no such service",
@@ -23,6 +23,9 @@ WORDS = (
     "input missing",
     "input unknown",
     "input depth",
+    "loop nested",
+    "loop depths",
+    "prefix depths",
 )
 MOST_FLOWS_DEEP = 8
 
@@ -54,11 +57,15 @@ def flows_opened_by(step):
     return [it["flow"] for it in step["activities"] if "flow" in it and "service" not in it]
 
 
+def kind_of_node(tree):
+    return next(it for it in ("cross", "dot", "prefix") if it in tree)
+
+
 def leaves_of(tree, path=()):
     """The leaves of a strategy, each with its path in it."""
     if isinstance(tree, str):
         return [(path, tree)]
-    kind = "cross" if "cross" in tree else "dot"
+    kind = kind_of_node(tree)
     return [leaf for at, it in enumerate(tree[kind]) for leaf in leaves_of(it, (*path, kind, at))]
 
 
@@ -126,12 +133,26 @@ class Checks:
                 if activity["flow"] in SERVICES:
                     mend = f'that is a service: write {{"service": {quoted(activity["flow"])}}}'
                 self.tell(NO_FLOW, f"{spot} activity {at}", f"there is no flow {quoted(activity['flow'])}", mend, (*here, "flow"))
+        if "loop" in said:
+            self.loop_names(said, path, spot)
         after = said.get("after", [])
         for at, other in enumerate(sorted(set(after))):
             if other not in steps_of(flow):
                 mend = self.nearest.choice(other, [it for it in steps_of(flow) if it != step], "other steps of the flow")
                 what, place = f"there is no step {quoted(other)} to run after", (*path, "after", after.index(other))
                 self.tell(NO_PORT, f"{spot} after {at}", what, mend, place)
+
+    def loop_names(self, said, path, spot):
+        """Tells a condition that is no service, and a flow beside a loop."""
+        condition = said["loop"]["service"]
+        if condition not in SERVICES:
+            mend = self.service_meant(condition)
+            self.tell(NO_SERVICE, f"{spot} loop", f"there is no service {quoted(condition)}", mend, (*path, "loop", "service"))
+        if flows_opened_by(said):
+            at = next(at for at, it in enumerate(said["activities"]) if "service" not in it)
+            what = "a step with a loop opens a flow"
+            mend = "take the loop out, or put it at a step of that flow: only services go round"
+            self.tell(LOOP_NESTED, f"{spot} loop", what, mend, (*path, "activities", at))
 
     def service_meant(self, name):
         """How to mend a service that isn't there."""
@@ -185,8 +206,10 @@ class Checks:
             here = (*path, "strategy", *at)
             if leaf not in ports:
                 mend = self.nearest.choice(leaf, left or ports, "ports that it leaves out" if left else f"ports of {quoted(step)}")
-                kind = leaf if leaf in ("cross", "dot") else words.foreign(leaf, ("cross", "dot"))[2]
-                if kind:
+                kind = leaf if leaf in ("cross", "dot", "prefix") else words.foreign(leaf, ("cross", "dot"))[2]
+                if kind == "prefix" and (self.document["taverna"] == 1 or len(ports) != 2):
+                    mend = "a strategy is a tree of ports: a prefix node stands in format 2, over two trees"
+                elif kind:
                     mend = f"a strategy is a tree of ports: write {as_json({kind: sorted(ports)}, 200)}"
                 what = f"the strategy names {quoted(leaf)}, which is no input port of {quoted(step)}"
                 self.tell(STRATEGY_PORTS, spot, what, mend, here)
@@ -336,11 +359,23 @@ class FlowDepths:
         for at, activity in enumerate(said["activities"]):
             if "service" not in activity and activity["flow"] in self.checks.nesting:
                 self.nested(said, activity["flow"], (*path, "activities", at), f"{spot} activity {at}")
+        if "loop" in said:
+            self.rounds(said, path, spot)
+
+    def rounds(self, said, path, spot):
+        """Tells the first output of a step with a loop that can't be the next round's input of its name."""
+        for port, declared in sorted(outputs_of(said).items()):
+            taken = inputs_of(said).get(port)
+            if taken is not None and taken["depth"] != declared:
+                what = f"the input {quoted(port)} has depth {taken['depth']} and the output {quoted(port)}, the next round's input, {declared}"
+                mend = "declare one depth for both, or give the output another name"
+                self.tell(LOOP_DEPTHS, f"{spot} loop", what, mend, (*path, "outputs", port), (taken["depth"], declared), True)
+                return
 
     def tree_depth(self, tree, walked, path, spot):
         if isinstance(tree, str):
             return walked[tree]
-        kind = "cross" if "cross" in tree else "dot"
+        kind = kind_of_node(tree)
         found = [self.tree_depth(it, walked, (*path, kind, at), spot) for at, it in enumerate(tree[kind])]
         if kind == "dot":
             other = next((it for it in found if None not in (it, found[0]) and it != found[0]), None)
@@ -351,6 +386,14 @@ class FlowDepths:
                 return None
         if None in found:
             return None
+        if kind == "prefix":
+            left, right = found
+            if right < left:
+                what = f"the right of a prefix node iterates over {right} levels and the left over {left}"
+                mend = "each left element takes those on the right below its own place: the right is as deep, or deeper"
+                self.tell(PREFIX_DEPTHS, spot, what, mend, (*path, kind), (left, right), True)
+                return None
+            return right
         return sum(found) if kind == "cross" else found[0]
 
     def nested(self, said, inner, path, spot):
@@ -384,7 +427,7 @@ class FlowDepths:
 def shown_tree(tree):
     if isinstance(tree, str):
         return quoted(tree)
-    kind = "cross" if "cross" in tree else "dot"
+    kind = kind_of_node(tree)
     return f"{kind} of {', '.join(shown_tree(it) for it in tree[kind])}"
 
 

@@ -17,6 +17,7 @@ FIELDS = {
     "a document": {"taverna": True, "main": True, "flows": True, "inputs": False},
     "a flow": {"inputs": False, "steps": False, "outputs": True},
     "a step": {"inputs": False, "outputs": False, "strategy": False, "activities": True, "retries": False, "jobs": False, "after": False},
+    "a loop": {"service": True, "until": True, "most": True},
     "an input port": {"depth": True, "from": True},
     "a feed from an input": {"input": True},
     "a feed from a step": {"step": True, "port": True},
@@ -24,6 +25,7 @@ FIELDS = {
     "a constant": {"constant": True},
     "a cross": {"cross": True},
     "a dot": {"dot": True},
+    "a prefix node": {"prefix": True},
     "a service": {"service": True},
     "a nested flow": {"flow": True},
 }
@@ -31,6 +33,10 @@ FEEDS = {"input": "a feed from an input", "step": "a feed from a step", "merge":
 LINKS = {"input": "a feed from an input", "step": "a feed from a step"}
 NAMED_BY = {"input": "the name of a flow input", "step": "the name of a step", "port": "the name of a step's output"}
 TREES = {"cross": "a cross", "dot": "a dot"}
+# What format 2 has besides, and how a document of format 1 comes to have it.
+SECOND_FIELDS = {"a step": {"loop": False}}
+SECOND_TREES = {"prefix": "a prefix node"}
+SECOND = 'write "taverna": 2'
 ACTIVITIES = {"service": "a service", "flow": "a nested flow"}
 
 # How each kind of thing is written.
@@ -43,6 +49,7 @@ SAMPLES = {
     "a feed": '{"input": "x"}, {"step": "s", "port": "o"}, {"merge": [LINK, LINK]} or {"constant": "text"}',
     "a link": '{"input": "x"} or {"step": "s", "port": "o"}',
     "a strategy": 'a port\'s name, {"cross": ["a", "b"]} or {"dot": ["a", "b"]}',
+    "a loop": '{"service": "echo", "until": "done", "most": 10}',
     "an activity": '{"service": "upper"} or {"flow": "NAME"}',
     "flows": '{"NAME": {"inputs": {..}, "steps": {..}, "outputs": {..}}}',
     "steps": '{"NAME": {"inputs": {..}, "outputs": {..}, "activities": [..]}}',
@@ -78,6 +85,7 @@ class Form:
 
     def __init__(self, nearest):
         self.found, self.nearest = Findings(), nearest
+        self.is_second = False
 
     def tell(self, fault, path, what, mend, at=None, is_key=False):
         """Tells a fault at a path; the place that is shown is that of `at` where the path itself isn't there."""
@@ -92,11 +100,15 @@ class Form:
             self.tell(WRONG_KIND, path, f"{kind_of(thing)} stands where {what} must stand, an object", self.instead(thing, what))
             return None
         fields, meant = FIELDS[what], set()
+        if self.is_second:
+            fields = {**fields, **SECOND_FIELDS.get(what, {})}
         for key in sorted(it for it in thing if it not in fields):
             if self.found.are_enough():
                 self.found.left_out += 1
                 continue
             whose, mend, here = self.field_meant(key, thing, fields, what)
+            if key in SECOND_FIELDS.get(what, {}):
+                whose, mend, here = None, f"it is a field of format 2: {SECOND}", None
             meant.add(here)
             self.no_field(path, key, what, mend, whose)
         return meant
@@ -124,6 +136,9 @@ class Form:
             ("activities", "a step"): f'add "activities": {SAMPLES["activities"]}',
             ("depth", "an input port"): 'add "depth": 0, or the depth of lists that it takes whole',
             ("from", "an input port"): f'add "from": {SAMPLES["a link"]}',
+            ("service", "a loop"): 'add "service": "NAME", the one that is asked after each round',
+            ("until", "a loop"): 'add "until": "TEXT", which ends the loop',
+            ("most", "a loop"): 'add "most": 10, the greatest number of rounds',
             ("port", "a feed from a step"): 'add "port": "NAME", the step\'s output that is meant',
         }
         return samples.get((key, what), "add it")
@@ -222,7 +237,8 @@ class Form:
         what = "a document"
         meant = self.opened((), thing, what)
         if self.has((), thing, "taverna", what, meant):
-            self.number(("taverna",), thing["taverna"], "the number of the form", 1, 1)
+            self.number(("taverna",), thing["taverna"], "the number of the form", 1, 2)
+            self.is_second = thing["taverna"] == 2 and not isinstance(thing["taverna"], bool)
         if self.has((), thing, "main", what, meant):
             self.name(("main",), thing["main"], "the name of the flow that runs")
         if self.has((), thing, "flows", what, meant):
@@ -289,6 +305,21 @@ class Form:
         if "after" in step:
             for position, name in self.listed((*path, "after"), step["after"], "names of steps", 0, 16):
                 self.name((*path, "after", position), name, "the name of a step")
+        if self.is_second and "loop" in step:
+            self.loop((*path, "loop"), step["loop"])
+
+    def loop(self, path, loop):
+        meant = self.opened(path, loop, "a loop")
+        if meant is None:
+            return
+        if self.has(path, loop, "service", "a loop", meant):
+            self.name((*path, "service"), loop["service"], "the name of a service")
+        if self.has(path, loop, "until", "a loop", meant) and not isinstance(loop["until"], str):
+            what = f"{kind_of(loop['until'])} stands where the text that ends a loop must stand"
+            mend = f"write {quoted(str(loop['until']))}" if isinstance(loop["until"], int) and not isinstance(loop["until"], bool) else "write it as a text"
+            self.tell(WRONG_KIND, (*path, "until"), what, mend)
+        if self.has(path, loop, "most", "a loop", meant):
+            self.number((*path, "most"), loop["most"], "the number of rounds", 1, 100)
 
     def port(self, path, port):
         if isinstance(port, str) or (isinstance(port, dict) and port and set(port) <= set(FEEDS) | {"port"}):
@@ -410,18 +441,22 @@ class Form:
                 mend = f'write {{"cross": {ports}}} for each with each, or {{"dot": {ports}}} for those at equal places'
             self.tell(WRONG_KIND, path, f"{kind_of(tree)} stands where a strategy must stand, a text or an object", mend)
             return
-        form = next((it for it in TREES if it in tree), "cross")
+        trees = {**TREES, **SECOND_TREES} if self.is_second else TREES
+        form = next((it for it in trees if it in tree), "cross")
         for key in sorted(it for it in tree if it != form):
-            if key in TREES:
+            if key in SECOND_TREES and not self.is_second:
+                self.no_field(path, key, "a strategy", f"a prefix node is of format 2: {SECOND}")
+            elif key in trees:
                 mend = 'put one into the other, as {"cross": [{"dot": ["a", "b"]}, "c"]}'
                 self.tell(UNKNOWN, (*path, key), f"{quoted(key)} stands beside {quoted(form)} in one strategy", mend, is_key=True)
             else:
-                whose, mend, here = self.field_meant(key, tree, TREES, "a strategy")
+                whose, mend, here = self.field_meant(key, tree, trees, "a strategy")
                 if here and as_json(tree[key], 60):
                     mend = f"here it is {quoted(here)}: write {{{quoted(here)}: {as_json(tree[key], 60)}}}"
                 self.no_field(path, key, "a strategy", mend, whose)
         if form in tree:
-            for position, child in self.listed((*path, form), tree[form], "ports and trees", 1, 16):
+            least, most = (2, 2) if form == "prefix" else (1, 16)
+            for position, child in self.listed((*path, form), tree[form], "ports and trees", least, most):
                 self.tree((*path, form, position), child)
         elif not tree:
             self.tell(MISSING, (*path, form), "a strategy without a field", f"write {SAMPLES['a strategy']}, or none", path)

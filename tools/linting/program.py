@@ -13,6 +13,7 @@ SPOTS = (
     (r"flow (\w+) step (\w+) output (\w+)", ("flows", 1, "steps", 2, "outputs", 3), True),
     (r"flow (\w+) step (\w+) activity \d+", ("flows", 1, "steps", 2, "activities"), True),
     (r"flow (\w+) step (\w+) after \d+", ("flows", 1, "steps", 2, "after"), True),
+    (r"flow (\w+) step (\w+) loop", ("flows", 1, "steps", 2, "loop"), True),
     (r"flow (\w+) step (\w+)", ("flows", 1, "steps", 2), True),
     (r"flow (\w+) output (\w+)", ("flows", 1, "outputs", 2), True),
     (r"flow (\w+)", ("flows", 1), True),

@@ -115,7 +115,7 @@ FOREIGN = {
     "retry": (TAVERNA, "retries", "how often an ask is repeated, 0 to 100"),
     "maxRetries": (TAVERNA, "retries", "how often an ask is repeated, 0 to 100"),
     "granularDepth": (TAVERNA, "depth", "one depth for each port"),
-    "loop": (TAVERNA, None, "there are no loops in form 1"),
+    "loop": (TAVERNA, None, "format 2 has loops: {\"service\": NAME, \"until\": TEXT, \"most\": ROUNDS}"),
     "sources": (TAVERNA, "inputs", "by name"),
     "sinks": (TAVERNA, "outputs", "by name"),
     "value": (TAVERNA, "constant", 'as {"constant": "x"}'),
@@ -129,7 +129,7 @@ FOREIGN = {
     "cross_product": (TAVERNA, "cross", 'as {"cross": ["a", "b"]}'),
     "crossProduct": (TAVERNA, "cross", 'as {"cross": ["a", "b"]}'),
     "product": (SNAKEMAKE, "cross", 'as {"cross": ["a", "b"]}'),
-    "prefix": (TAVERNA, None, "form 1 has cross and dot alone"),
+    "prefix": (TAVERNA, None, "format 2 has prefix nodes in its strategies"),
 }
 FIELDS_OF = {
     "taverna": "the document", "main": "the document", "flows": "the document", "steps": "a flow", "inputs": "a flow or step",
